@@ -1,11 +1,10 @@
 -- What was answered, with the records of what it changed.
-use Rattle.std.proofs.Common.{◌≡◌, ◌⊎◌, ◌≤◌, ℕ, zero, suc, List, [], ◌∷◌, ◌++◌, append_assoc, length, length-append, replicate, false, refl, sym, ap, subst, ◌∙◌, arith, inl, inr, IfOk, OnErr, Option, Some, None, Result, Ok, Err}
+use Rattle.std.proofs.Common.{◌≡◌, ◌⊎◌, ℕ, List, [], length, false, refl, sym, ap, subst, ◌∙◌, inl, inr, IfOk, OnErr, Option, Some, None, Result, Ok, Err}
 use Rattle.refusal.specs.declared.NoMemory.{NoMemory}
 use Rattle.credit_book.specs.declared.book.Report.{Report}
 use Rattle.credit_book.specs.declared.board.Progress.{Progress}
 use Rattle.job_core.specs.Admitted.{AdmittedJob}
 use Rattle.accounts.specs.declared.keep_limits.KeepLimits.{KeepLimits}
-use Rattle.accounts.specs.declared.jobs.JobEntry.{JobEntry}
 use Rattle.accounts.specs.declared.jobs.JobStanding.{JobStanding}
 use Rattle.accounts.specs.Limits.{bytes_in}
 use Rattle.accounts.proofs.LastJob.{last_left}
@@ -61,13 +60,13 @@ module _ {R Q : Type 0} (starts : R → ℕ → AdmittedJob → Result (Unit {0}
     (takes : R → Option (ℕ × Result Report ℕ) → R → Type 0) (taken : Q → List ℕ) (failed : Q → Type 0) (keep : KeepLimits) (query : Result Asked ℕ)
     (old passed_desk mid new : Ledger) (runner rest left : R) (before begun passed answered after : ChangeRecorder Q)
     (queue : begun.queue ≡ before.queue) (stopped : begun.is_stopped ≡ before.is_stopped) (unchanged : begun.has_changed ≡ false)
-    (passes : Passes takes old runner passed_desk rest) (first : IsRecorded taken failed begun passed old passed_desk)
-    (second : IsRecorded taken failed passed answered passed_desk mid)
-    (kept : KeepsWithin keep mid new ⊎ ((new ≡ mid) × (answered.has_changed ≡ false))) (third : IsRecorded taken failed answered after mid new) where
-  replied : IsRecorded taken failed begun answered old mid
+    (passes : Passes takes old runner passed_desk rest) (first : IsRecorded taken failed begun passed old passed_desk [])
+    (second : IsRecorded taken failed passed answered passed_desk mid [])
+    (kept : KeepsWithin keep mid new ⊎ ((new ≡ mid) × (answered.has_changed ≡ false))) (third : IsRecorded taken failed answered after mid new []) where
+  replied : IsRecorded taken failed begun answered old mid []
   replied = records_then taken failed begun passed answered old passed_desk mid first second
 
-  all : IsRecorded taken failed begun after old new
+  all : IsRecorded taken failed begun after old new []
   all = records_then taken failed begun answered after old mid new replied third
 
   kept_so : (KeepsWithin keep mid new ⊎ ((new ≡ mid) × (answered.has_changed ≡ false))) → KeepsWithin keep mid new ⊎ ((new ≡ mid) × (mid ≡ old))
@@ -82,7 +81,7 @@ module _ {R Q : Type 0} (starts : R → ℕ → AdmittedJob → Result (Unit {0}
     kept = kept_so kept;
     going = λ on. sym stopped ∙ all.going on;
     told = λ had. all.told (λ on. subst failed (sym queue) (had (sym stopped ∙ on)));
-    records = λ on. subst (λ (q : Q). RecordsMore taken q after.queue old new) queue (all.records on);
+    records = λ on. subst (λ (q : Q). RecordsMore taken q after.queue old new []) queue (all.records on);
   }
 
   pub recorded_ok : (r : Result (List ℕ) NoMemory) → Framed r (λ told. Replies starts looks passed_desk rest query told mid left) →

@@ -1,9 +1,15 @@
 -- Where one change of a desk leads, with the jobs that are held.
-use Rattle.std.proofs.Common.{◌≡◌, ℕ, List, [], ◌∷◌, ◌++◌, length, Result, Ok, Err, Vec, refl, sym, subst, ◌∙◌}
+use Rattle.std.proofs.Common.{◌≡◌, ℕ, true, List, [], ◌∷◌, ◌++◌, length, None, Some, Result, Ok, Err, Vec, refl, sym, subst, ◌∙◌}
 use Rattle.std.specs.declared.alloc.Global.{Global}
 use Rattle.credit_book.specs.declared.book.Report.{Report}
+use Rattle.job_core.specs.Admission.{IsAdmittedFrom}
+use Rattle.job_core.specs.Admitted.{AdmittedJob}
 use Rattle.job_core.specs.declared.admission.ProgramBytes.{ProgramBytes}
-use Rattle.journal.specs.Records.{record_of, FitsRecord}
+use Rattle.sessions.specs.Grammar.{is_job_key}
+use Rattle.sessions.specs.JobKeys.{noted}
+use Rattle.sessions.specs.declared.job_key.KeyedJob.{KeyedJob}
+use Rattle.keyed_desk.specs.KeyedChanges.{by_key_bytes}
+use Rattle.keyed_desk.specs.KeyedSteps.{alone, by_key}
 use Rattle.accounts.specs.Ledgers.{Ledger, Finishes, GrantsMore, Takes}
 use Rattle.accounts.specs.declared.jobs.JobStanding.{JobStanding}
 use Rattle.accounts.specs.declared.jobs.JobStanding.TheVariants.{Reported, Failed as FailedBy}
@@ -13,33 +19,40 @@ use Rattle.desk_journal.proofs.OpenLemmas.{gone_closed, over_closed}
 use Rattle.desk_journal.specs.declared.change.DeskChange.{DeskChange}
 use Rattle.desk_journal.specs.declared.change.DeskChange.TheVariants.{Granted, Submitted, Finished, Failed, Forgotten, AccountOpened, JobsSkipped, ReportKept, FailureKept}
 use Rattle.desk_journal.specs.declared.journaled_desk.OpenJob.{OpenJob}
-use Rattle.desk_recorder.specs.Recording.{HoldsOpen, IsEndRecord, IsForgettingRecord, IsGrantRecord, IsChangeRecord, IsSubmitRecord, ChangesLead}
+use Rattle.desk_recorder.specs.Recording.{HoldsOpen, IsEndRecord, IsForgettingRecord, IsGrantRecord, IsChangeRecord, IsRecordWith, IsSubmitRecord, ChangesLead, keyed_state, last_keyed}
 use Rattle.desk_recorder.proofs.Held.{ended_held, ended_there, forgotten_held, held_without, left_held, same_open, taken_held, behind_held}
 
+-- the change is made of a desk, whatever list holds its open jobs
+abbrev MakesHeld : DeskChange → Ledger → Ledger → Type 0
+MakesHeld change old new = (held : List OpenJob) → HoldsOpen held old → (after : List OpenJob) × HoldsOpen after new
+    × Makes change (record { desk = old; held = held }) (record { desk = new; held = after })
+
 -- a change that is made of a desk and its open jobs leads from one to the other
-by_change : (old new : Ledger) (change : DeskChange) → ((held : List OpenJob) → HoldsOpen held old → (after : List OpenJob) × HoldsOpen after new
-    × Makes change (record { desk = old; held = held }) (record { desk = new; held = after })) → ChangesLead old (change_bytes change ∷ []) new
-by_change old new change makes held holds =
+by_change : (old new : Ledger) (change : DeskChange) → MakesHeld change old new → ChangesLead old (change_bytes change ∷ []) [] new
+by_change old new change makes held keys holds =
     let t = makes held holds in
-    (t.0, t.1, (record { desk = new; held = t.0 }, (change, refl, t.2), refl))
+    (t.0, t.1, (keyed_state new t.0 keys, alone (change, refl, t.2) refl, refl))
+
+-- and by a key, which the last job has then
+by_key_change : (old new : Ledger) (change : DeskChange) (key : List ℕ) → is_job_key key ≡ true → MakesHeld change old new → ChangesLead old (by_key_bytes key (change_bytes change) ∷ []) (last_keyed (Some key) new) new
+by_key_change old new change key is_key makes held keys holds =
+    let t = makes held holds in
+    let after = keyed_state new t.0 (noted keys (length new.jobs) key) in
+    (t.0, t.1, (after, by_key key (change_bytes change) refl is_key (change, refl, t.2) refl, refl))
 
 -- the record of such a change
-recorded : (bytes : List ℕ) (change : DeskChange) (old new : Ledger) → FitsRecord (change_bytes change) × (bytes ≡ record_of (change_bytes change)) → ChangesLead old (change_bytes change ∷ []) new
-    → IsChangeRecord bytes old new
-recorded bytes change old new are leads = record { payload = change_bytes change; are = are.1; fits = are.0; leads = leads }
+recorded : (bytes payload : List ℕ) (ks : List KeyedJob) (old new : Ledger) → IsRecordWith payload bytes → ChangesLead old (payload ∷ []) ks new → IsChangeRecord bytes old new ks
+recorded bytes payload ks old new are leads = record { payload = payload; are = are.1; fits = are.0; leads = leads }
 
-pub records_grant : (bytes : List ℕ) (tenant : Vec ℕ Global) (amount : ℕ) (name : List ℕ) → FitsRecord (change_bytes (Granted tenant amount)) × (bytes ≡ record_of (change_bytes (Granted tenant amount)))
-    → tenant.items ≡ name → IsGrantRecord bytes name amount
+pub records_grant : (bytes : List ℕ) (tenant : Vec ℕ Global) (amount : ℕ) (name : List ℕ) → IsRecordWith (change_bytes (Granted tenant amount)) bytes → tenant.items ≡ name → IsGrantRecord bytes name amount
 records_grant bytes tenant amount name are same old new grants =
     let more = subst (λ (n : List ℕ). GrantsMore old n amount new) (sym same) grants in
-    recorded bytes (Granted tenant amount) old new are (by_change old new (Granted tenant amount) (λ held holds. (held, same_open old new held more.jobs holds, (more, refl))))
+    recorded bytes (change_bytes (Granted tenant amount)) [] old new are (by_change old new (Granted tenant amount) (λ held holds. (held, same_open old new held more.jobs holds, (more, refl))))
 
-pub records_submit : (bytes : List ℕ) (tenant : Vec ℕ Global) (programs : Vec ProgramBytes Global) (credit : ℕ) (buffer : Vec ℕ Global) (name : List ℕ)
-    → FitsRecord (change_bytes (Submitted tenant programs credit buffer)) × (bytes ≡ record_of (change_bytes (Submitted tenant programs credit buffer)))
-    → tenant.items ≡ name → IsSubmitRecord bytes name programs.items credit buffer.items
-records_submit bytes tenant programs credit buffer name are same old new job takes admitted =
-    let taken = subst (λ (n : List ℕ). Takes old n credit new) (sym same) takes in
-    recorded bytes (Submitted tenant programs credit buffer) old new are (by_change old new (Submitted tenant programs credit buffer) (held_then taken))
+-- a job that is taken is held
+taken_so : (tenant : Vec ℕ Global) (programs : Vec ProgramBytes Global) (credit : ℕ) (buffer : Vec ℕ Global) (name : List ℕ) (old new : Ledger) (job : AdmittedJob) → tenant.items ≡ name → Takes old name credit new
+    → IsAdmittedFrom programs.items credit buffer.items job → MakesHeld (Submitted tenant programs credit buffer) old new
+taken_so tenant programs credit buffer name old new job same takes admitted = held_then (subst (λ (n : List ℕ). Takes old n credit new) (sym same) takes)
   where
     open_job : OpenJob
     open_job = record { number = length new.jobs; job = job }
@@ -49,6 +62,18 @@ records_submit bytes tenant programs credit buffer name are same old new job tak
     held_then taken held holds =
         (held ++ open_job ∷ [], taken_held old new tenant.items credit held open_job taken refl holds, (taken, (open_job, admitted, refl, refl)))
 
+pub records_submit : (bytes : List ℕ) (tenant : Vec ℕ Global) (programs : Vec ProgramBytes Global) (credit : ℕ) (buffer : Vec ℕ Global) (name : List ℕ) → IsRecordWith (change_bytes (Submitted tenant programs credit buffer)) bytes
+    → tenant.items ≡ name → IsSubmitRecord bytes None name programs.items credit buffer.items
+records_submit bytes tenant programs credit buffer name are same old new job takes admitted =
+    let change = Submitted tenant programs credit buffer in
+    recorded bytes (change_bytes change) [] old new are (by_change old new change (taken_so tenant programs credit buffer name old new job same takes admitted))
+
+pub records_submit_by_key : (bytes key : List ℕ) (tenant : Vec ℕ Global) (programs : Vec ProgramBytes Global) (credit : ℕ) (buffer : Vec ℕ Global) (name : List ℕ) → is_job_key key ≡ true
+    → IsRecordWith (by_key_bytes key (change_bytes (Submitted tenant programs credit buffer))) bytes → tenant.items ≡ name → IsSubmitRecord bytes (Some key) name programs.items credit buffer.items
+records_submit_by_key bytes key tenant programs credit buffer name is_key are same old new job takes admitted =
+    let change = Submitted tenant programs credit buffer in
+    recorded bytes (by_key_bytes key (change_bytes change)) (last_keyed (Some key) new) old new are (by_key_change old new change key is_key (taken_so tenant programs credit buffer name old new job same takes admitted))
+
 -- a job that ends is held no more
 ends : (old new : Ledger) (number : ℕ) (outcome : Result Report ℕ) → Finishes old number outcome new → (held : List OpenJob) → HoldsOpen held old
     → (after : List OpenJob) × HoldsOpen after new × EndsJob number outcome (record { desk = old; held = held }) (record { desk = new; held = after })
@@ -56,20 +81,18 @@ ends old new number outcome over held holds =
     let without = held_without number held (holds number (ended_there old new number outcome over)) in
     (without.rest, ended_held old new number outcome held without over holds, (over, without.is))
 
-pub records_report : (bytes : List ℕ) (number : ℕ) (report : Report) → FitsRecord (change_bytes (Finished number report)) × (bytes ≡ record_of (change_bytes (Finished number report)))
-    → IsEndRecord bytes number (Ok report)
+pub records_report : (bytes : List ℕ) (number : ℕ) (report : Report) → IsRecordWith (change_bytes (Finished number report)) bytes → IsEndRecord bytes number (Ok report)
 records_report bytes number report are old new over =
-    recorded bytes (Finished number report) old new are (by_change old new (Finished number report)
+    recorded bytes (change_bytes (Finished number report)) [] old new are (by_change old new (Finished number report)
     (λ held holds. let t = ends old new number (Ok report) over held holds in (t.0, t.1, (report, refl, t.2))))
 
-pub records_failure : (bytes : List ℕ) (number code : ℕ) → FitsRecord (change_bytes (Failed number code)) × (bytes ≡ record_of (change_bytes (Failed number code)))
-    → IsEndRecord bytes number (Err code)
+pub records_failure : (bytes : List ℕ) (number code : ℕ) → IsRecordWith (change_bytes (Failed number code)) bytes → IsEndRecord bytes number (Err code)
 records_failure bytes number code are old new over =
-    recorded bytes (Failed number code) old new are (by_change old new (Failed number code) (ends old new number (Err code) over))
+    recorded bytes (change_bytes (Failed number code)) [] old new are (by_change old new (Failed number code) (ends old new number (Err code) over))
 
-pub records_forgetting : (bytes : List ℕ) (ahead : ℕ) → FitsRecord (change_bytes (Forgotten ahead)) × (bytes ≡ record_of (change_bytes (Forgotten ahead))) → IsForgettingRecord bytes ahead
+pub records_forgetting : (bytes : List ℕ) (ahead : ℕ) → IsRecordWith (change_bytes (Forgotten ahead)) bytes → IsForgettingRecord bytes ahead
 records_forgetting bytes ahead are old new forgets =
-    recorded bytes (Forgotten ahead) old new are (by_change old new (Forgotten ahead) (λ held holds. (held, forgotten_held old new ahead held forgets.jobs holds, (forgets, refl))))
+    recorded bytes (change_bytes (Forgotten ahead)) [] old new are (by_change old new (Forgotten ahead) (λ held holds. (held, forgotten_held old new ahead held forgets.jobs holds, (forgets, refl))))
 
 -- ---- any change keeps the open jobs held
 

@@ -1,5 +1,5 @@
 -- Answers of a handler that records what changes its desk.
-use Rattle.std.specs.Prelude.{◌≡◌, ◌⊎◌, ℕ, List, Option, Result, true, false}
+use Rattle.std.specs.Prelude.{◌≡◌, ◌⊎◌, ℕ, List, [], Option, Result, true, false}
 use Rattle.credit_book.specs.declared.book.Report.{Report}
 use Rattle.credit_book.specs.declared.board.Progress.{Progress}
 use Rattle.job_core.specs.Admitted.{AdmittedJob}
@@ -28,7 +28,7 @@ pub record AnswersRecorded {R Q : Type 0}
   pub told : (before.is_stopped ≡ true → failed before.queue) → after.is_stopped ≡ true
       → failed after.queue
   pub records : after.is_stopped ≡ false
-      → RecordsMore taken before.queue after.queue old new
+      → RecordsMore taken before.queue after.queue old new []
 
 -- the same of a handler, which keeps as many reports as before
 abbrev pub answers_recorded : {R Q : Type 0}

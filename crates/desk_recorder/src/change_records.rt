@@ -1,12 +1,17 @@
 //! The record of each change, made from what is there before the change.
 
-ghost use Rattle.std.specs.Prelude.{◌≡◌, Err, IfOk, Ok};
-ghost use Rattle.desk_recorder.specs.Recording.{IsEndRecord, IsForgettingRecord, IsGrantRecord, IsSubmitRecord};
+ghost use Rattle.std.specs.Prelude.{◌≡◌, Err, IfOk, Ok, option_map, true};
+ghost use Rattle.desk_journal.specs.DeskChanges.{change_bytes};
+ghost use Rattle.desk_recorder.specs.Recording.{IsEndRecord, IsForgettingRecord, IsGrantRecord, IsRecordWith, IsSubmitRecord};
+ghost use Rattle.keyed_desk.specs.KeyedChanges.{by_key_bytes};
+ghost use Rattle.sessions.specs.Grammar.{is_job_key};
 
 use credit_book::Report;
 use desk_journal::DeskChange;
 use job_core::ProgramBytes;
+use keyed_desk::KeyedChange;
 use recovery::{RecordFault, record_bytes};
+use sessions::JobKey;
 use std::alloc::Global;
 
 /// The record of a grant.
@@ -19,16 +24,29 @@ pub fn grant_record(alloc: Global, tenant: &str, amount: u32) -> Result<Vec<u8>,
     record_bytes(alloc, &DeskChange::Granted { tenant, amount })
 }
 
-/// The record of a job that is taken.
+// The record of a change by a key.
+fn record_by_key(alloc: Global, key: &JobKey, change: DeskChange) -> Result<Vec<u8>, RecordFault>
+    ensures record { IfOk result
+        (λ bytes. IsRecordWith (by_key_bytes key.now (change_bytes change)) bytes.items) }
+    ensures key { is_job_key key.now ≡ true }
+{
+    let Ok(key) = key.as_str().as_bytes().to_vec(alloc) else {
+        return Err(RecordFault::NoMemory);
+    };
+    record_bytes(alloc, &KeyedChange::ByKey { key, change })
+}
+
+/// The record of a job that is taken, with the key that it came by.
 pub fn submit_record(
     alloc: Global,
+    key: Option<&JobKey>,
     tenant: &str,
     programs: Vec<ProgramBytes>,
     credit: u32,
     buffer: Vec<u8>,
 ) -> Result<Vec<u8>, RecordFault>
-    ensures { IfOk result
-        (λ bytes. IsSubmitRecord bytes.items tenant.now programs.items credit buffer.items) }
+    ensures { IfOk result (λ bytes. IsSubmitRecord bytes.items (option_map (λ k. k.now) key.entry)
+        tenant.now programs.items credit buffer.items) }
 {
     let Ok(tenant) = tenant.as_bytes().to_vec(alloc) else {
         return Err(RecordFault::NoMemory);
@@ -39,7 +57,10 @@ pub fn submit_record(
         credit,
         buffer,
     };
-    record_bytes(alloc, &change)
+    match key {
+        Some(key) => record_by_key(alloc, key, change),
+        None => record_bytes(alloc, &change),
+    }
 }
 
 // The record of an open job's report, and the report, which isn't copied. (The proof's borrow checker

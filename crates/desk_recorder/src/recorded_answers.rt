@@ -1,12 +1,12 @@
 //! One answer of a desk and a runner, with the records of what it changes.
 
-ghost use Rattle.std.specs.Prelude.{◌≡◌, ◌⊎◌, ◌≤◌, ◌+◌, ℕ, List, IfErr, IfOk, OnErr, OnOk, Ok, false, unwrap_or};
+ghost use Rattle.std.specs.Prelude.{◌≡◌, ◌⊎◌, ◌≤◌, ◌+◌, ℕ, List, [], IfErr, IfOk, OnErr, OnOk, Ok, false, length, option_map, unwrap_or};
 ghost use Rattle.accounts.specs.Ledgers.{GrantsMore, KeepsWithin, RefusesGrant, account_at, granted_to, most_granted};
 ghost use Rattle.sessions.specs.Grammar.{request_asked};
 ghost use Rattle.streams.specs.Answering.{Framed, Grants, GrantsNone, Replies};
 ghost use Rattle.streams.specs.Prepared.{asked_of};
 ghost use Rattle.streams.specs.Refusing.{TellsRefusal};
-ghost use Rattle.desk_recorder.specs.Recording.{IsRecorded};
+ghost use Rattle.desk_recorder.specs.Recording.{IsRecorded, keyed_taken};
 ghost use Rattle.desk_recorder.specs.RecordedAnswers.{AnswersRecorded};
 
 use crate::change_records::{forgetting_record, grant_record};
@@ -16,7 +16,7 @@ use crate::recorded_submit::{answer_admitted_recorded, answer_submit_recorded};
 use crate::recorder::ChangeRecorder;
 use accounts::{Account, Desk, DeskFault, KeepLimits};
 use refusal::NoMemory;
-use sessions::Request;
+use sessions::{JobKey, Request};
 use std::alloc::Global;
 use streams::{
     PendingReply, PreparedRequest, Runner, SubmitRefusal, account_reply, answer_account,
@@ -32,12 +32,13 @@ pub fn grant_recorded<Q: RecordQueue>(
     amount: u32,
 ) -> Result<Account, DeskFault>
     ensures granted { OnOk result (GrantsMore desk.old tenant.now amount desk.new) }
+    ensures count { length desk.new.jobs ≡ length desk.old.jobs }
     ensures within { OnOk result (unwrap_or (granted_to desk.old tenant.now) 0 + amount
         ≤ most_granted) }
     ensures account { IfOk result (λ _. result ≡ account_at desk.new tenant.now) }
     ensures refused { IfErr result (λ e. RefusesGrant desk.old tenant.now amount e) }
     ensures unchanged { OnErr result (desk.new ≡ desk.old) }
-    ensures records { IsRecorded Q.taken Q.has_failed recorder.old recorder.new desk.old desk.new }
+    ensures records { IsRecorded Q.taken Q.has_failed recorder.old recorder.new desk.old desk.new [] }
 {
     let record = grant_record(alloc, tenant, amount);
     match desk.grant(alloc, tenant, amount) {
@@ -59,7 +60,8 @@ fn answer_grant_recorded<Q: RecordQueue>(
 ) -> Result<PendingReply, NoMemory>
     ensures done { Framed result (λ told. Grants desk.old tenant.now amount told desk.new
         ⊎ GrantsNone desk.old tenant.now amount told desk.new) }
-    ensures records { IsRecorded Q.taken Q.has_failed recorder.old recorder.new desk.old desk.new }
+    ensures count { length desk.new.jobs ≡ length desk.old.jobs }
+    ensures records { IsRecorded Q.taken Q.has_failed recorder.old recorder.new desk.old desk.new [] }
 {
     let account = grant_recorded(alloc, desk, recorder, tenant, amount);
     PendingReply::of_reply(alloc, &account_reply(account))
@@ -72,6 +74,7 @@ fn carry_out_recorded<N: Runner, Q: RecordQueue>(
     desk: &mut Desk,
     runner: &mut N,
     recorder: &mut ChangeRecorder<Q>,
+    key: Option<&JobKey>,
     request: Request,
 ) -> (Option<SubmitRefusal>, Result<PendingReply, NoMemory>)
     requires { N.ready runner.old }
@@ -81,7 +84,8 @@ fn carry_out_recorded<N: Runner, Q: RecordQueue>(
         (λ told. Replies N.starts N.looks desk.old runner.old
         (Ok (request_asked request)) told desk.new
         runner.new) }
-    ensures records { IsRecorded Q.taken Q.has_failed recorder.old recorder.new desk.old desk.new }
+    ensures records { IsRecorded Q.taken Q.has_failed recorder.old recorder.new desk.old desk.new
+        (keyed_taken (option_map (λ k. k.now) key.entry) desk.old desk.new) }
 {
     match request {
         Request::Grant { tenant, amount } => {
@@ -95,20 +99,21 @@ fn carry_out_recorded<N: Runner, Q: RecordQueue>(
             credit,
             buffer,
         } => answer_submit_recorded(
-            alloc, desk, runner, recorder, tenant, programs, credit, buffer,
+            alloc, desk, runner, recorder, key, tenant, programs, credit, buffer,
         ),
         Request::Status { job } => (None, answer_status(alloc, desk, runner, job)),
         Request::Result { job } => (None, answer_result(alloc, desk, job)),
     }
 }
 
-/// Carries a request out and records what it changes, or tells the number of its refusal. Ends of
-/// jobs are passed by the caller.
+/// Carries a request out and records what it changes, or tells the number of its refusal. A job that
+/// is taken is recorded with the key that it came by. Ends of jobs are passed by the caller.
 pub fn reply_recorded<N: Runner, Q: RecordQueue>(
     alloc: Global,
     desk: &mut Desk,
     runner: &mut N,
     recorder: &mut ChangeRecorder<Q>,
+    key: Option<&JobKey>,
     request: PreparedRequest,
 ) -> (Option<SubmitRefusal>, Result<PendingReply, NoMemory>)
     requires { N.ready runner.old }
@@ -117,17 +122,18 @@ pub fn reply_recorded<N: Runner, Q: RecordQueue>(
     ensures done { Framed result.1
         (λ told. Replies N.starts N.looks desk.old runner.old (asked_of request) told desk.new
         runner.new) }
-    ensures records { IsRecorded Q.taken Q.has_failed recorder.old recorder.new desk.old desk.new }
+    ensures records { IsRecorded Q.taken Q.has_failed recorder.old recorder.new desk.old desk.new
+        (keyed_taken (option_map (λ k. k.now) key.entry) desk.old desk.new) }
 {
     match request {
         PreparedRequest::AsItCame(Ok(request)) => {
-            carry_out_recorded(alloc, desk, runner, recorder, request)
+            carry_out_recorded(alloc, desk, runner, recorder, key, request)
         }
         PreparedRequest::AsItCame(Err(code)) => {
             (None, PendingReply::of_reply(alloc, &refused(code)))
         }
         PreparedRequest::Submit(submit) => {
-            answer_admitted_recorded(alloc, desk, runner, recorder, submit)
+            answer_admitted_recorded(alloc, desk, runner, recorder, key, submit)
         }
     }
 }
@@ -142,7 +148,7 @@ pub fn keep_recorded<Q: RecordQueue>(
 )
     ensures kept { KeepsWithin keep desk.old desk.new
         ⊎ ((desk.new ≡ desk.old) × (recorder.old.has_changed ≡ false)) }
-    ensures records { IsRecorded Q.taken Q.has_failed recorder.old recorder.new desk.old desk.new }
+    ensures records { IsRecorded Q.taken Q.has_failed recorder.old recorder.new desk.old desk.new [] }
 {
     if !recorder.has_changed {
         return;
@@ -176,7 +182,7 @@ pub fn answer_recorded<N: Runner, Q: RecordQueue>(
 {
     recorder.begin();
     pass_recorded(alloc, desk, runner, recorder);
-    let (refusal, reply) = reply_recorded(alloc, desk, runner, recorder, request);
+    let (refusal, reply) = reply_recorded(alloc, desk, runner, recorder, None, request);
     keep_recorded(alloc, desk, recorder, keep);
     (refusal, reply)
 }

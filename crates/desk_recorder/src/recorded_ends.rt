@@ -1,6 +1,6 @@
 //! Ends of jobs, noted by the desk and recorded.
 
-ghost use Rattle.std.specs.Prelude.{ℕ};
+ghost use Rattle.std.specs.Prelude.{ℕ, []};
 ghost use Rattle.accounts.specs.Ledgers.{Ledger};
 ghost use Rattle.streams.specs.Passing.{Notes, Passes};
 ghost use Rattle.streams.specs.Refusing.{TellsStart};
@@ -23,7 +23,7 @@ pub fn end_job<Q: RecordQueue>(
     outcome: Result<Report, u8>,
 )
     ensures noted { Notes desk.old number outcome desk.new }
-    ensures records { IsRecorded Q.taken Q.has_failed recorder.old recorder.new desk.old desk.new }
+    ensures records { IsRecorded Q.taken Q.has_failed recorder.old recorder.new desk.old desk.new [] }
 {
     let (record, outcome) = end_record(alloc, number, outcome);
     match desk.finish(number, outcome) {
@@ -42,7 +42,7 @@ pub fn pass_recorded<N: Runner, Q: RecordQueue>(
     requires { N.ready runner.old }
     ensures ready { N.ready runner.new }
     ensures passed { Passes N.takes desk.old runner.old desk.new runner.new }
-    ensures records { IsRecorded Q.taken Q.has_failed recorder.old recorder.new desk.old desk.new }
+    ensures records { IsRecorded Q.taken Q.has_failed recorder.old recorder.new desk.old desk.new [] }
 {
     'jobs: loop {
         match runner.take() {
@@ -59,7 +59,7 @@ pub fn note_start<Q: RecordQueue>(
     refusal: Option<SubmitRefusal>,
 )
     ensures { (old new : Ledger) (number : ℕ) → TellsStart old number refusal new
-        → IsRecorded Q.taken Q.has_failed recorder.old recorder.new old new }
+        → IsRecorded Q.taken Q.has_failed recorder.old recorder.new old new [] }
 {
     match refusal {
         Some(why) => match why {

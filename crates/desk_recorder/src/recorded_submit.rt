@@ -1,6 +1,6 @@
 //! A job that is taken, recorded and started.
 
-ghost use Rattle.std.specs.Prelude.{◌≡◌, ℕ, List, IfErr, IfOk, MatchResult, Ok, OnErr, OnOk, length};
+ghost use Rattle.std.specs.Prelude.{◌≡◌, ℕ, List, [], IfErr, IfOk, MatchResult, Ok, OnErr, OnOk, Option, length, option_map};
 ghost use Rattle.accounts.specs.Ahead.{IsAdmissionOf};
 ghost use Rattle.accounts.specs.Ledgers.{Ledger, RefusesSubmit, Takes};
 ghost use Rattle.job_core.specs.Admission.{IsAdmittedFrom};
@@ -8,7 +8,7 @@ ghost use Rattle.job_core.specs.declared.admission.ProgramBytes.{ProgramBytes};
 ghost use Rattle.streams.specs.Answering.{Framed, Replies, StartsTaken, submit_refused};
 ghost use Rattle.streams.specs.Refusing.{IsJustTaken, SaysRefusal, TellsRefusal};
 ghost use Rattle.streams.specs.Submits.{submit_asked};
-ghost use Rattle.desk_recorder.specs.Recording.{IsRecordedAdmission, IsRecorded};
+ghost use Rattle.desk_recorder.specs.Recording.{IsRecordedAdmission, IsRecorded, keyed_taken};
 
 use crate::change_records::submit_record;
 use crate::record_queue::RecordQueue;
@@ -17,6 +17,7 @@ use crate::recorder::ChangeRecorder;
 use accounts::{Desk, SubmitFault};
 use job_core::{AdmitFault, Job, ProgramBytes};
 use refusal::NoMemory;
+use sessions::JobKey;
 use std::alloc::Global;
 use streams::{AdmittedSubmit, PendingReply, Runner, SubmitParts, SubmitRefusal, answer_taken};
 
@@ -25,6 +26,7 @@ use streams::{AdmittedSubmit, PendingReply, Runner, SubmitParts, SubmitRefusal, 
 fn record_ahead<Q: RecordQueue>(
     alloc: Global,
     recorder: &mut ChangeRecorder<Q>,
+    key: Option<&JobKey>,
     tenant: &str,
     programs: Vec<ProgramBytes>,
     credit: u32,
@@ -33,9 +35,10 @@ fn record_ahead<Q: RecordQueue>(
 ) -> Result<(Job, Vec<u8>), AdmitFault>
     ensures admission { (buffer : List ℕ) → IsAdmissionOf programs.items credit buffer admitted
         → IfOk copy (λ bytes. bytes.items ≡ buffer)
-        → IsRecordedAdmission tenant.now programs.items credit buffer result }
+        → IsRecordedAdmission (option_map (λ k. k.now) key.entry) tenant.now programs.items credit
+        buffer result }
     ensures records { (desk : Ledger)
-        → IsRecorded Q.taken Q.has_failed recorder.old recorder.new desk desk }
+        → IsRecorded Q.taken Q.has_failed recorder.old recorder.new desk desk [] }
 {
     let job = match admitted {
         Ok(job) => job,
@@ -45,7 +48,7 @@ fn record_ahead<Q: RecordQueue>(
         Ok(buffer) => buffer,
         Err(NoMemory) => return Err(AdmitFault::NoMemory),
     };
-    let record = match submit_record(alloc, tenant, programs, credit, buffer) {
+    let record = match submit_record(alloc, key, tenant, programs, credit, buffer) {
         Ok(record) => record,
         Err(_) => return Err(AdmitFault::NoMemory),
     };
@@ -66,16 +69,17 @@ fn take_recorded<Q: RecordQueue>(
 ) -> Result<(u64, Job), SubmitFault>
     ensures taken { OnOk result (Takes desk.old tenant.now credit desk.new) }
     ensures number { IfOk result (λ taken. taken.0 ≡ length desk.new.jobs) }
-    ensures admitted { (programs : List ProgramBytes) (buffer : List ℕ)
-        → IsRecordedAdmission tenant.now programs credit buffer admission
+    ensures admitted { (key : Option (List ℕ)) (programs : List ProgramBytes) (buffer : List ℕ)
+        → IsRecordedAdmission key tenant.now programs credit buffer admission
         → IfOk result (λ taken. IsAdmittedFrom programs credit buffer taken.1) }
-    ensures refused { (programs : List ProgramBytes) (buffer : List ℕ)
-        → IsRecordedAdmission tenant.now programs credit buffer admission
+    ensures refused { (key : Option (List ℕ)) (programs : List ProgramBytes) (buffer : List ℕ)
+        → IsRecordedAdmission key tenant.now programs credit buffer admission
         → IfErr result (λ e. RefusesSubmit desk.old tenant.now programs credit buffer e) }
     ensures unchanged { OnErr result (desk.new ≡ desk.old) }
-    ensures records { (programs : List ProgramBytes) (buffer : List ℕ)
-        → IsRecordedAdmission tenant.now programs credit buffer admission
-        → IsRecorded Q.taken Q.has_failed recorder.old recorder.new desk.old desk.new }
+    ensures records { (key : Option (List ℕ)) (programs : List ProgramBytes) (buffer : List ℕ)
+        → IsRecordedAdmission key tenant.now programs credit buffer admission
+        → IsRecorded Q.taken Q.has_failed recorder.old recorder.new desk.old desk.new
+        (keyed_taken key desk.old desk.new) }
 {
     let (job, record) = match admission {
         Ok(made) => made,
@@ -106,7 +110,8 @@ fn start_recorded<N: Runner, Q: RecordQueue>(
         (λ fault. (desk.new ≡ desk.old) × (runner.new ≡ runner.old)
         × (told ≡ submit_refused fault))) }
     ensures refusal { IfOk result.1 (λ frame. SaysRefusal desk.new result.0 frame) }
-    ensures records { IsRecorded Q.taken Q.has_failed recorder.old recorder.new desk.old desk.new }
+    ensures count { length desk.new.jobs ≡ length desk.old.jobs }
+    ensures records { IsRecorded Q.taken Q.has_failed recorder.old recorder.new desk.old desk.new [] }
 {
     match taken {
         Ok(job) => {
@@ -118,13 +123,14 @@ fn start_recorded<N: Runner, Q: RecordQueue>(
     }
 }
 
-/// Takes a job that was admitted or refused ahead, records it and starts it, and tells its number.
-/// Want of memory for the record refuses it by 99, behind 74 and 75.
+/// Takes a job that was admitted or refused ahead, records it with the key that it came by, starts
+/// it, and tells its number. Want of memory for the record refuses it by 99, behind 74 and 75.
 pub fn answer_admitted_recorded<N: Runner, Q: RecordQueue>(
     alloc: Global,
     desk: &mut Desk,
     runner: &mut N,
     recorder: &mut ChangeRecorder<Q>,
+    key: Option<&JobKey>,
     submit: AdmittedSubmit,
 ) -> (Option<SubmitRefusal>, Result<PendingReply, NoMemory>)
     requires { N.ready runner.old }
@@ -132,7 +138,8 @@ pub fn answer_admitted_recorded<N: Runner, Q: RecordQueue>(
     ensures done { Framed result.1
         (λ told. Replies N.starts N.looks desk.old runner.old (Ok submit) told desk.new runner.new) }
     ensures refusal { TellsRefusal desk.new (Ok submit) result.0 result.1 }
-    ensures records { IsRecorded Q.taken Q.has_failed recorder.old recorder.new desk.old desk.new }
+    ensures records { IsRecorded Q.taken Q.has_failed recorder.old recorder.new desk.old desk.new
+        (keyed_taken (option_map (λ k. k.now) key.entry) desk.old desk.new) }
 {
     let SubmitParts {
         tenant,
@@ -143,7 +150,7 @@ pub fn answer_admitted_recorded<N: Runner, Q: RecordQueue>(
         ..
     } = submit.into_parts();
     let name = tenant.as_str();
-    let admission = record_ahead(alloc, recorder, name, programs, credit, admitted, copy);
+    let admission = record_ahead(alloc, recorder, key, name, programs, credit, admitted, copy);
     let taken = take_recorded(alloc, desk, recorder, name, credit, admission);
     start_recorded(alloc, desk, runner, recorder, taken)
 }
@@ -154,6 +161,7 @@ pub fn answer_submit_recorded<N: Runner, Q: RecordQueue>(
     desk: &mut Desk,
     runner: &mut N,
     recorder: &mut ChangeRecorder<Q>,
+    key: Option<&JobKey>,
     tenant: String,
     programs: Vec<ProgramBytes>,
     credit: u32,
@@ -165,12 +173,13 @@ pub fn answer_submit_recorded<N: Runner, Q: RecordQueue>(
         (Ok (submit_asked tenant programs.items credit buffer.items)) told desk.new runner.new) }
     ensures refusal { TellsRefusal desk.new
         (Ok (submit_asked tenant programs.items credit buffer.items)) result.0 result.1 }
-    ensures records { IsRecorded Q.taken Q.has_failed recorder.old recorder.new desk.old desk.new }
+    ensures records { IsRecorded Q.taken Q.has_failed recorder.old recorder.new desk.old desk.new
+        (keyed_taken (option_map (λ k. k.now) key.entry) desk.old desk.new) }
 {
     match desk.may_submit(&tenant, credit) {
         Ok(()) => {
             let submit = AdmittedSubmit::admit(alloc, tenant, programs, credit, buffer);
-            answer_admitted_recorded(alloc, desk, runner, recorder, submit)
+            answer_admitted_recorded(alloc, desk, runner, recorder, key, submit)
         }
         Err(fault) => answer_taken(alloc, desk, runner, Err(fault)),
     }

@@ -1,7 +1,8 @@
 //! The records of a desk's changes, as they are put into a queue.
 
-ghost use Rattle.std.specs.Prelude.{◌≡◌, IfOk, true, false};
+ghost use Rattle.std.specs.Prelude.{◌≡◌, List, [], IfOk, true, false};
 ghost use Rattle.accounts.specs.Ledgers.{Ledger};
+ghost use Rattle.sessions.specs.declared.job_key.KeyedJob.{KeyedJob};
 ghost use Rattle.desk_recorder.specs.Recording.{IsChangeRecord, IsRecorded};
 
 use crate::record_queue::RecordQueue;
@@ -41,7 +42,7 @@ impl<Q: RecordQueue> ChangeRecorder<Q> {
 
     /// Makes room for a record of so many bytes.
     pub fn reserve(&mut self, len: usize) -> Result<(), NoMemory>
-        ensures { (desk : Ledger) → IsRecorded Q.taken Q.has_failed self.old self.new desk desk }
+        ensures { (desk : Ledger) → IsRecorded Q.taken Q.has_failed self.old self.new desk desk [] }
     {
         if self.is_stopped {
             return Ok(());
@@ -51,8 +52,9 @@ impl<Q: RecordQueue> ChangeRecorder<Q> {
 
     /// Takes the record of a change that was made, or stops where there is none.
     pub fn note(&mut self, made: Result<Vec<u8>, RecordFault>)
-        ensures { (old new : Ledger) → IfOk made (λ bytes. IsChangeRecord bytes.items old new)
-            → IsRecorded Q.taken Q.has_failed self.old self.new old new }
+        ensures { (old new : Ledger) (keyed : List KeyedJob)
+            → IfOk made (λ bytes. IsChangeRecord bytes.items old new keyed)
+            → IsRecorded Q.taken Q.has_failed self.old self.new old new keyed }
     {
         self.has_changed = true;
         if self.is_stopped {
@@ -68,8 +70,9 @@ impl<Q: RecordQueue> ChangeRecorder<Q> {
     fn put(&mut self, bytes: &[u8])
         requires going { self.old.is_stopped ≡ false }
         requires changed { self.old.has_changed ≡ true }
-        ensures { (old new : Ledger) → IsChangeRecord bytes.now old new
-            → IsRecorded Q.taken Q.has_failed self.old self.new old new }
+        ensures { (old new : Ledger) (keyed : List KeyedJob)
+            → IsChangeRecord bytes.now old new keyed
+            → IsRecorded Q.taken Q.has_failed self.old self.new old new keyed }
     {
         match self.queue.add(bytes) {
             Ok(()) => {}

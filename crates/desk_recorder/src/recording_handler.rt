@@ -23,7 +23,7 @@ pub struct RecordingHandler<N, Q> {
 }
 
 impl<N: Runner, Q: RecordQueue> RecordingHandler<N, Q> {
-    ghost use Rattle.std.specs.Prelude.{◌≡◌, false};
+    ghost use Rattle.std.specs.Prelude.{◌≡◌, [], false};
     ghost use Rattle.desk_recorder.specs.Recording.{IsRecorded};
     ghost use Rattle.desk_recorder.specs.Restarts.{StartsEach};
 
@@ -47,7 +47,7 @@ impl<N: Runner, Q: RecordQueue> RecordingHandler<N, Q> {
         ensures starts { StartsEach N.starts desk.old self.old.runner jobs.items desk.new
             self.new.runner }
         ensures records { IsRecorded Q.taken Q.has_failed self.old.recorder self.new.recorder
-            desk.old desk.new }
+            desk.old desk.new [] }
         ensures same_keep { self.new.keep ≡ self.old.keep }
     {
         restart_jobs(alloc, desk, &mut self.runner, &mut self.recorder, jobs);

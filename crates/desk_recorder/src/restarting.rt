@@ -1,6 +1,6 @@
 //! Open jobs of a recovered desk, started again.
 
-ghost use Rattle.std.specs.Prelude.{ℕ};
+ghost use Rattle.std.specs.Prelude.{ℕ, []};
 ghost use Rattle.desk_recorder.specs.Recording.{IsRecorded};
 ghost use Rattle.desk_recorder.specs.Restarts.{NotesStart, StartsEach};
 
@@ -24,7 +24,7 @@ fn restart_job<N: Runner, Q: RecordQueue>(
     ensures ready { N.ready runner.new }
     ensures starts { N.starts runner.old job.number job.job result runner.new }
     ensures noted { NotesStart desk.old job.number result desk.new }
-    ensures records { IsRecorded Q.taken Q.has_failed recorder.old recorder.new desk.old desk.new }
+    ensures records { IsRecorded Q.taken Q.has_failed recorder.old recorder.new desk.old desk.new [] }
 {
     let OpenJob { number, job } = job;
     match runner.start(alloc, number, job) {
@@ -48,7 +48,7 @@ pub fn restart_jobs<N: Runner, Q: RecordQueue>(
     requires { N.ready runner.old }
     ensures ready { N.ready runner.new }
     ensures starts { StartsEach N.starts desk.old runner.old jobs.items desk.new runner.new }
-    ensures records { IsRecorded Q.taken Q.has_failed recorder.old recorder.new desk.old desk.new }
+    ensures records { IsRecorded Q.taken Q.has_failed recorder.old recorder.new desk.old desk.new [] }
 {
     'jobs: for job in jobs {
         let _ = restart_job(alloc, desk, runner, recorder, job);

@@ -2,8 +2,8 @@
 use Rattle.std.proofs.Common.{◌≡◌, ℕ, List, [], ◌∷◌, ◌++◌, Option, Some, None, Result, Ok, Err, refl, sym, ap, subst, ◌∙◌}
 use Rattle.std.specs.Prelude.{IfOk, OnErr}
 use Rattle.refusal.specs.declared.NoMemory.{NoMemory}
-use Rattle.sessions.specs.declared.door_forms.DoorForm.{DoorForm}
 use Rattle.sessions.specs.declared.job_key.KeyedJob.{KeyedJob}
+use Rattle.shared_desk.specs.declared.door.Door.{Door}
 use Rattle.shared_desk.specs.Histories.{HistoryEntry, Query, Replays, none_yet, one_more}
 use Rattle.tenant_desks.specs.AskedPlainly as plain
 use Rattle.tenant_desks.specs.AskedPlainly.{AreAskedPlainly, IsAskedAs}
@@ -30,7 +30,7 @@ pub asked_nothing : {S : Type 0} (answers : S → Query → List ℕ → S → T
 asked_nothing answers s query t (Ok told) ok err = (told, ok)
 asked_nothing answers s query t (Err none) ok err = err
 
-module _ {H : Type 0} (answers : Tenancy × H → Query → List ℕ → Tenancy × H → Type 0) (s t : Tenancy × BehindDoors H) (query : Query) where
+module _ {H : Type 0} (answers : Tenancy × H → Query → List ℕ → Tenancy × H → Type 0) (keeps : Tenancy × H → Door → Option (List ℕ) → Tenancy × H → Type 0) (s t : Tenancy × BehindDoors H) (query : Query) where
   -- what the door tells by itself
   abbrev Told : Option (List ℕ)
   Told = told_by_door (keys_behind s.1.keys query.passage.door) t.0.desks query.passage.door query.beyond
@@ -41,32 +41,37 @@ module _ {H : Type 0} (answers : Tenancy × H → Query → List ℕ → Tenancy
   abbrev left : Option (List ℕ) → List (List KeyedJob)
   left key = keys_left key s.1.keys query.passage.door (jobs_behind s.0.desks query.passage.door) (jobs_behind t.0.desks query.passage.door)
 
-  tells : (frame : List ℕ) → Told ≡ Some frame → New ≡ None → AsksNothing answers query.passage (without_keys s) (without_keys t) → t.1.keys ≡ s.1.keys → answers_at_doors answers s query frame t
-  tells frame told none asked same = (
+  abbrev Keeps : Option (List ℕ) → Type 0
+  Keeps key = keeps (without_keys s) query.passage.door key (without_keys t)
+
+  tells : (frame : List ℕ) → Told ≡ Some frame → New ≡ None → AsksNothing answers query.passage (without_keys s) (without_keys t) → t.1.keys ≡ s.1.keys → Keeps None → answers_at_doors answers keeps s query frame t
+  tells frame told none asked same kept = (
     subst (λ (o : Option (List ℕ)). AnswersOrTells answers o (without_keys s) query frame (without_keys t)) (sym told) (asked, refl),
     same ∙ ap left (sym none),
+    subst Keeps (sym none) kept,
   )
 
   pub tells_reply : (frame : List ℕ) (r : Result (List ℕ) NoMemory) → Told ≡ Some frame → New ≡ None → AsksNothing answers query.passage (without_keys s) (without_keys t) → t.1.keys ≡ s.1.keys
-      → IfOk r (λ bytes. bytes ≡ frame) → GivesReply (λ reply. answers_at_doors answers s query reply t) r
-  tells_reply frame (Ok bytes) told none asked same is = subst (λ (b : List ℕ). answers_at_doors answers s query b t) (sym is) (tells frame told none asked same)
-  tells_reply frame (Err e) told none asked same is = (frame, tells frame told none asked same)
+      → Keeps None → IfOk r (λ bytes. bytes ≡ frame) → GivesReply (λ reply. answers_at_doors answers keeps s query reply t) r
+  tells_reply frame (Ok bytes) told none asked same kept is = subst (λ (b : List ℕ). answers_at_doors answers keeps s query b t) (sym is) (tells frame told none asked same kept)
+  tells_reply frame (Err e) told none asked same kept is = (frame, tells frame told none asked same kept)
 
   -- the handler's own answer
-  passes : (reply : List ℕ) → Told ≡ None → t.1.keys ≡ left New → answers (without_keys s) (plainly query) reply (without_keys t) → answers_at_doors answers s query reply t
-  passes reply told kept answer = (
+  passes : (reply : List ℕ) → Told ≡ None → t.1.keys ≡ left New → Keeps New → answers (without_keys s) (plainly query) reply (without_keys t) → answers_at_doors answers keeps s query reply t
+  passes reply told noted kept answer = (
     subst (λ (o : Option (List ℕ)). AnswersOrTells answers o (without_keys s) query reply (without_keys t)) (sym told) answer,
+    noted,
     kept,
   )
 
-  pub passes_reply : (r : Result (List ℕ) NoMemory) → Told ≡ None → t.1.keys ≡ left New → IfOk r (λ reply. answers (without_keys s) (plainly query) reply (without_keys t))
-      → OnErr r ((reply : List ℕ) × answers (without_keys s) (plainly query) reply (without_keys t)) → GivesReply (λ reply. answers_at_doors answers s query reply t) r
-  passes_reply (Ok reply) told kept ok err = passes reply told kept ok
-  passes_reply (Err e) told kept ok err = (err.0, passes err.0 told kept err.1)
+  pub passes_reply : (r : Result (List ℕ) NoMemory) → Told ≡ None → t.1.keys ≡ left New → Keeps New → IfOk r (λ reply. answers (without_keys s) (plainly query) reply (without_keys t))
+      → OnErr r ((reply : List ℕ) × answers (without_keys s) (plainly query) reply (without_keys t)) → GivesReply (λ reply. answers_at_doors answers keeps s query reply t) r
+  passes_reply (Ok reply) told noted kept ok err = passes reply told noted kept ok
+  passes_reply (Err e) told noted kept ok err = (err.0, passes err.0 told noted kept err.1)
 
 -- ---- a history, by what the handler was asked
 
-module _ {H : Type 0} (answers : Tenancy × H → Query → List ℕ → Tenancy × H → Type 0) (begins : Tenancy × BehindDoors H → Type 0) (starts : Tenancy × H → Type 0)
+module _ {H : Type 0} (answers : Tenancy × H → Query → List ℕ → Tenancy × H → Type 0) (keeps : Tenancy × H → Door → Option (List ℕ) → Tenancy × H → Type 0) (begins : Tenancy × BehindDoors H → Type 0) (starts : Tenancy × H → Type 0)
     (start : (s : Tenancy × BehindDoors H) → begins s → starts (without_keys s)) where
   asked_more : (history asked : List HistoryEntry) (s : Tenancy × BehindDoors H) (e : HistoryEntry) (t : Tenancy × BehindDoors H) (told : Option (List ℕ))
       → told_by_door (keys_behind s.1.keys e.query.passage.door) t.0.desks e.query.passage.door e.query.beyond ≡ told
@@ -87,7 +92,7 @@ module _ {H : Type 0} (answers : Tenancy × H → Query → List ℕ → Tenancy
         one_more asked (without_keys s) f (without_keys t) legal answer,
       )
 
-  pub asked_plainly : (history : List HistoryEntry) (t : Tenancy × BehindDoors H) → Replays (answers_at_doors answers) begins history t
+  pub asked_plainly : (history : List HistoryEntry) (t : Tenancy × BehindDoors H) → Replays (answers_at_doors answers keeps) begins history t
       → (asked : List HistoryEntry) × AreAskedPlainly answers begins history asked t × Replays answers starts asked (without_keys t)
   asked_plainly _ t (none_yet s begun) = ([], plain.none_yet s begun, none_yet (without_keys s) (start s begun))
   asked_plainly _ t (one_more history s e u before answer) =
@@ -101,10 +106,12 @@ abbrev pub doors_as : {H G : Type 0} → (H → G) → Tenancy × BehindDoors H 
 doors_as f s = (s.0, record { handler = f s.1.handler; keys = s.1.keys })
 
 module _ {H G : Type 0} (answers : Tenancy × H → Query → List ℕ → Tenancy × H → Type 0) (answers1 : Tenancy × G → Query → List ℕ → Tenancy × G → Type 0) (f : H → G)
-    (alike : (s : Tenancy × H) (query : Query) (reply : List ℕ) (t : Tenancy × H) → answers s query reply t → answers1 (s.0, f s.1) query reply (t.0, f t.1)) where
+    (alike : (s : Tenancy × H) (query : Query) (reply : List ℕ) (t : Tenancy × H) → answers s query reply t → answers1 (s.0, f s.1) query reply (t.0, f t.1))
+    (keeps : Tenancy × H → Door → Option (List ℕ) → Tenancy × H → Type 0) (keeps1 : Tenancy × G → Door → Option (List ℕ) → Tenancy × G → Type 0)
+    (kept_alike : (s : Tenancy × H) (door : Door) (key : Option (List ℕ)) (t : Tenancy × H) → keeps s door key t → keeps1 (s.0, f s.1) door key (t.0, f t.1)) where
   by_told : (told : Option (List ℕ)) (s : Tenancy × H) (query : Query) (reply : List ℕ) (t : Tenancy × H) → AnswersOrTells answers told s query reply t → AnswersOrTells answers1 told (s.0, f s.1) query reply (t.0, f t.1)
   by_told None s query reply t answer = alike s (plainly query) reply t answer
   by_told (Some frame) s query reply t ((told, answer), is) = ((told, alike s (no_request_by query.passage) told t answer), is)
 
-  pub doors_alike : (s : Tenancy × BehindDoors H) (query : Query) (reply : List ℕ) (t : Tenancy × BehindDoors H) → answers_at_doors answers s query reply t → answers_at_doors answers1 (doors_as f s) query reply (doors_as f t)
-  doors_alike s query reply t answer = (by_told _ (without_keys s) query reply (without_keys t) answer.0, answer.1)
+  pub doors_alike : (s : Tenancy × BehindDoors H) (query : Query) (reply : List ℕ) (t : Tenancy × BehindDoors H) → answers_at_doors answers keeps s query reply t → answers_at_doors answers1 keeps1 (doors_as f s) query reply (doors_as f t)
+  doors_alike s query reply t answer = (by_told _ (without_keys s) query reply (without_keys t) answer.0, answer.1, kept_alike (without_keys s) query.passage.door _ (without_keys t) answer.2)

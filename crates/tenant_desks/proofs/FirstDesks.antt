@@ -1,6 +1,6 @@
 -- The desks that tenants begin with, one more.
-use Rattle.std.proofs.Common.{◌≡◌, ◌≤◌, ◌<◌, ◌+◌, ℕ, List, [], ◌∷◌, ◌++◌, length, map, string_bytes, take, Option, String, sym, ap, subst, ◌∙◌, refl, arith}
-use Rattle.std.proofs.lemmas.List.{map-append, length-map, length-append}
+use Rattle.std.proofs.Common.{◌≡◌, ℕ, List, [], ◌∷◌, ◌++◌, length, map, string_bytes, Option, String, sym, ap, ◌∙◌, refl, arith}
+use Rattle.std.proofs.lemmas.List.{map-append}
 use Rattle.std.specs.declared.alloc.Global.{Global}
 use Rattle.accounts.specs.Ledgers.{Ledger}
 use Rattle.tenant_desks.specs.Tenancies.{AreFirstDesks, IsFirstDesk}

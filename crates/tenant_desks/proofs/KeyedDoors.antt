@@ -25,11 +25,11 @@ use Rattle.shared_desk.specs.Histories.{HistoryEntry, Query}
 use Rattle.tenant_desks.specs.AtDoors.{AnswersOrTells, AsksNothing, BehindDoors, count_of_jobs, jobs_behind, keys_behind, keys_left, new_key, plainly, submit_frame, told_by_door, unless_known, with_key, without_keys}
 use Rattle.tenant_desks.specs.Answering.{AnswersWhere, BeginsAtDoors, DeskAnswer, EndsTaken, KeptRunner, NotesAtPlace, door_answers, named_answers, tenant_answers}
 use Rattle.tenant_desks.specs.Answering as answering
-use Rattle.tenant_desks.specs.JobKeys.{job_among, latest}
+use Rattle.sessions.specs.JobKeys.{job_among, latest}
 use Rattle.tenant_desks.specs.KeyedHistories.{AreKeyed, AsksByKey, IsGivenNone, IsOtherRequest, none_yet, one_taken, none_taken, one_again, other}
 use Rattle.tenant_desks.specs.OwnNamed.{IsOwnNamed, name_behind, own_name, own_named, named, no_memory, no_request}
 use Rattle.tenant_desks.specs.Routing.{desk_for, desk_of_submit, place_behind, tenant_place}
-use Rattle.tenant_desks.specs.Tenancies.{ChangesAt, Tenancy}
+use Rattle.tenant_desks.specs.Tenancies.{Tenancy}
 
 -- ---- lists
 
@@ -45,12 +45,12 @@ latest_more jobs x =
     let c = length-append jobs (x ∷ []) in
     drop_no_more (length jobs - 1000) (length (latest jobs ++ x ∷ []) - 1000) (length (jobs ++ x ∷ []) - 1000) jobs x (omega arith) (omega (arith, a, b, c))
 
-set_here : {X : Type 0} (xs : List X) (i : ℕ) (x y : X) → slice_get xs i ≡ Some x → slice_get (slice_set xs i y) i ≡ Some y
+pub set_here : {X : Type 0} (xs : List X) (i : ℕ) (x y : X) → slice_get xs i ≡ Some x → slice_get (slice_set xs i y) i ≡ Some y
 set_here [] i x y there = absurd cc
 set_here (z ∷ xs) zero x y there = refl
 set_here (z ∷ xs) (suc i) x y there = set_here xs i x y there
 
-set_apart : {X : Type 0} (xs : List X) (i j : ℕ) (y : X) → i ≢ j → slice_get (slice_set xs i y) j ≡ slice_get xs j
+pub set_apart : {X : Type 0} (xs : List X) (i j : ℕ) (y : X) → i ≢ j → slice_get (slice_set xs i y) j ≡ slice_get xs j
 set_apart [] i j y apart = refl
 set_apart (z ∷ xs) zero zero y apart = absurd (apart refl)
 set_apart (z ∷ xs) zero (suc j) y apart = refl
@@ -84,7 +84,7 @@ at_place old number outcome new j n = elim n.noted [
   | inr t ↦ ap (λ (ds : List Ledger). count_of_jobs (slice_get ds j)) t.1
 ]
 
-ends_taken : {R : Type 0} (takes : R → Option (ℕ × Result Report ℕ) → R → Type 0) (ds : List Ledger) (r : R) (es : List Ledger) (s : R) (j : ℕ) → EndsTaken takes ds r es s → count_of_jobs (slice_get es j) ≡ count_of_jobs (slice_get ds j)
+pub ends_taken : {R : Type 0} (takes : R → Option (ℕ × Result Report ℕ) → R → Type 0) (ds : List Ledger) (r : R) (es : List Ledger) (s : R) (j : ℕ) → EndsTaken takes ds r es s → count_of_jobs (slice_get es j) ≡ count_of_jobs (slice_get ds j)
 ends_taken takes ds r es s j answering.none_yet = refl
 ends_taken takes ds r es s j (answering.one_more ds1 r1 number outcome s1 es1 before step noted) =
     at_place ds1 number outcome es1 j noted ∙ ends_taken takes ds r ds1 r1 j before

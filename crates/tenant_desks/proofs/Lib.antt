@@ -13,6 +13,5 @@ mod FirstDesks
 pub mod NamedHistories
 pub mod OwnLemmas
 pub mod ListedDesks
-pub mod KeyLemmas
 pub mod DoorLemmas
-mod KeyedDoors
+pub mod KeyedDoors

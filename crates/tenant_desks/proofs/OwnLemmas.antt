@@ -1,5 +1,5 @@
 -- Names that are put in.
-use Rattle.std.proofs.Common.{◌≡◌, ◌<◌, ℕ, List, [], ◌∷◌, length, Option, Some, Result, Ok, Err, refl, sym, ap, ◌∙◌, subst, arith}
+use Rattle.std.proofs.Common.{◌≡◌, ◌<◌, ℕ, List, [], ◌∷◌, length, Some, Result, Ok, refl, sym, ap, ◌∙◌, subst, arith}
 use Rattle.sessions.specs.Grammar.{Asked, grant, account, submit, status, result}
 use Rattle.streams.specs.Prepared.{submitter_of}
 use Rattle.streams.specs.Submits.{of_tenant}

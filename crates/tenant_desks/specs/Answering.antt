@@ -15,7 +15,7 @@ use Rattle.shared_desk.specs.Histories.{Query}
 use Rattle.tenant_desks.specs.declared.placed_runner.PlacedRunner.{PlacedRunner}
 use Rattle.tenant_desks.specs.Placing.{placed}
 use Rattle.tenant_desks.specs.PlacedRunners.{starts_placed, looks_placed}
-use Rattle.tenant_desks.specs.AtDoors.{BehindDoors, answers_at_doors}
+use Rattle.tenant_desks.specs.AtDoors.{BehindDoors, answers_at_doors, keeps_no_key}
 use Rattle.tenant_desks.specs.OwnNamed.{answers_own_named}
 use Rattle.tenant_desks.specs.Routing.{desk_for}
 use Rattle.tenant_desks.specs.Tenancies.{Tenancy, ChangesAt}
@@ -117,7 +117,8 @@ abbrev pub door_answers : {R : Type 0} → (R → ℕ → AdmittedJob → Result
     → Type 0) → (R → ℕ → Progress → R → Type 0) → (R → Option (ℕ × Result Report ℕ) → R → Type 0)
     → Tenancy × BehindDoors (KeptRunner R) → Query → List ℕ
     → Tenancy × BehindDoors (KeptRunner R) → Type 0
-door_answers starts looks takes = answers_at_doors (tenant_answers starts looks takes)
+door_answers starts looks takes =
+    answers_at_doors (tenant_answers starts looks takes) keeps_no_key
 
 -- A server with doors begins at these desks, with these limits of what they keep, and its doors
 -- remember no key.

@@ -10,7 +10,7 @@ use Rattle.sessions.specs.declared.reply.Reply.TheVariants as reply
 use Rattle.shared_desk.specs.declared.door.Door.{Door}
 use Rattle.shared_desk.specs.declared.passage.Passage.{Passage}
 use Rattle.shared_desk.specs.Histories.{Query}
-use Rattle.tenant_desks.specs.JobKeys.{job_among, noted}
+use Rattle.sessions.specs.JobKeys.{job_among, noted}
 use Rattle.tenant_desks.specs.JobLists.{jobs_frame}
 use Rattle.tenant_desks.specs.Routing.{place_behind}
 use Rattle.tenant_desks.specs.Tenancies.{Tenancy}
@@ -98,16 +98,24 @@ AnswersOrTells answers None s query reply t = answers s (plainly query) reply t
 AnswersOrTells answers (Some frame) s query reply t =
     AsksNothing answers query.passage s t × (reply ≡ frame)
 
--- the answers of a handler of plain requests behind doors that hear more
+-- what a handler keeps that keeps no keys
+abbrev pub keeps_no_key : {S : Type 0} → S → Door → Option (List ℕ) → S → Type 0
+keeps_no_key s door key t = Unit {0}
+
+-- The answers of a handler of plain requests behind doors that hear more. What the handler keeps
+-- beside the desks has the key of a submit that the door didn't know.
 abbrev pub answers_at_doors : {H : Type 0} → (Tenancy × H → Query → List ℕ → Tenancy × H → Type 0)
+    → (Tenancy × H → Door → Option (List ℕ) → Tenancy × H → Type 0)
     → Tenancy × BehindDoors H → Query → List ℕ → Tenancy × BehindDoors H → Type 0
-answers_at_doors answers s query reply t =
+answers_at_doors answers keeps s query reply t =
     AnswersOrTells answers
     (told_by_door (keys_behind s.1.keys query.passage.door) t.0.desks query.passage.door query.beyond)
     (without_keys s) query reply (without_keys t)
     × (t.1.keys ≡ keys_left (new_key (keys_behind s.1.keys query.passage.door) query.beyond)
     s.1.keys query.passage.door (jobs_behind s.0.desks query.passage.door)
     (jobs_behind t.0.desks query.passage.door))
+    × keeps (without_keys s) query.passage.door
+    (new_key (keys_behind s.1.keys query.passage.door) query.beyond) (without_keys t)
 
 -- Used by private contracts: a reply was decided, and is given where there was memory for it.
 abbrev pub GivesReply : (List ℕ → Type 0) → Result (List ℕ) NoMemory → Type 0

@@ -6,7 +6,7 @@ use Rattle.sessions.specs.declared.door_forms.DoorForm.TheVariants.{Keyed}
 use Rattle.sessions.specs.declared.job_key.KeyedJob.{KeyedJob}
 use Rattle.shared_desk.specs.Histories.{HistoryEntry, Query}
 use Rattle.tenant_desks.specs.AtDoors.{submit_frame}
-use Rattle.tenant_desks.specs.JobKeys.{job_among, latest}
+use Rattle.sessions.specs.JobKeys.{job_among, latest}
 use Rattle.tenant_desks.specs.Routing.{place_behind}
 
 -- what is asked is a submit by this key, at the door of the desk at this place

@@ -4,7 +4,6 @@ pub mod PlacedRunners
 pub mod Routing
 pub mod OwnNamed
 pub mod JobLists
-pub mod JobKeys
 pub mod AtDoors
 pub mod AskedPlainly
 pub mod Tenancies

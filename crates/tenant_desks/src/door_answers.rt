@@ -4,16 +4,17 @@ ghost use Rattle.std.specs.Prelude.{◌≡◌, None, Some};
 ghost use Rattle.sessions.specs.declared.door_forms.DoorForm.TheVariants.{Jobs, Keyed, Server};
 ghost use Rattle.shared_desk.specs.Answered.{query_by};
 ghost use Rattle.tenant_desks.specs.AtDoors.{AsksNothing, GivesReply, answers_at_doors, jobs_behind, keys_behind};
-ghost use Rattle.tenant_desks.specs.JobKeys.{job_among};
+ghost use Rattle.sessions.specs.JobKeys.{job_among};
 
 use crate::desks::TenantDesks;
 use crate::door_keys::DoorKeys;
 use crate::job_lists::list_jobs;
+use crate::keyed_handler::KeyedHandler;
 use crate::routing::place_behind;
 use crate::tenant_handler::refuse;
 use refusal::NoMemory;
 use sessions::{DoorForm, JobKey, Reply};
-use shared_desk::{Door, Passage, SharedHandler};
+use shared_desk::{Door, Passage};
 use std::alloc::Global;
 use streams::{PendingReply, PreparedRequest};
 
@@ -32,7 +33,7 @@ fn count_at(desks: &TenantDesks, door: Door) -> u64
 
 // Has the handler pass finished jobs to their desks, as it does ahead of each answer: it is asked what
 // is no request.
-fn ask_nothing<H: SharedHandler<TenantDesks>>(
+fn ask_nothing<H: KeyedHandler>(
     alloc: Global,
     handler: &mut H,
     desk: &mut TenantDesks,
@@ -41,13 +42,14 @@ fn ask_nothing<H: SharedHandler<TenantDesks>>(
     requires { H.ready handler.old }
     ensures ready { H.ready handler.new }
     ensures asked { AsksNothing H.answers passage (desk.old, handler.old) (desk.new, handler.new) }
+    ensures kept { H.keeps_key (desk.old, handler.old) passage.door None (desk.new, handler.new) }
 {
     let nothing = PreparedRequest::AsItCame(Err(NO_REQUEST));
-    drop(handler.answer_by(alloc, desk, passage, nothing, None));
+    drop(handler.answer_keyed(alloc, desk, passage, nothing, None));
 }
 
 // Tells the jobs of the door's own desk.
-fn tell_jobs<H: SharedHandler<TenantDesks>>(
+fn tell_jobs<H: KeyedHandler>(
     alloc: Global,
     handler: &mut H,
     keys: &DoorKeys,
@@ -58,7 +60,7 @@ fn tell_jobs<H: SharedHandler<TenantDesks>>(
 ) -> Result<PendingReply, NoMemory>
     requires { H.ready handler.old }
     ensures ready { H.ready handler.new }
-    ensures answered { GivesReply (λ reply. answers_at_doors H.answers
+    ensures answered { GivesReply (λ reply. answers_at_doors H.answers H.keeps_key
         (desk.old, record { handler = handler.old; keys = keys.now })
         (query_by passage request (Some (Jobs from))) reply
         (desk.new, record { handler = handler.new; keys = keys.now })) result }
@@ -69,7 +71,7 @@ fn tell_jobs<H: SharedHandler<TenantDesks>>(
 }
 
 // Refuses a submit whose key is none.
-fn refuse_key<H: SharedHandler<TenantDesks>>(
+fn refuse_key<H: KeyedHandler>(
     alloc: Global,
     handler: &mut H,
     keys: &DoorKeys,
@@ -79,7 +81,7 @@ fn refuse_key<H: SharedHandler<TenantDesks>>(
 ) -> Result<PendingReply, NoMemory>
     requires { H.ready handler.old }
     ensures ready { H.ready handler.new }
-    ensures answered { GivesReply (λ reply. answers_at_doors H.answers
+    ensures answered { GivesReply (λ reply. answers_at_doors H.answers H.keeps_key
         (desk.old, record { handler = handler.old; keys = keys.now })
         (query_by passage request (Some (Keyed None))) reply
         (desk.new, record { handler = handler.new; keys = keys.now })) result }
@@ -90,7 +92,7 @@ fn refuse_key<H: SharedHandler<TenantDesks>>(
 }
 
 // Refuses what is asked of the server itself.
-fn refuse_server<H: SharedHandler<TenantDesks>>(
+fn refuse_server<H: KeyedHandler>(
     alloc: Global,
     handler: &mut H,
     keys: &DoorKeys,
@@ -100,7 +102,7 @@ fn refuse_server<H: SharedHandler<TenantDesks>>(
 ) -> Result<PendingReply, NoMemory>
     requires { H.ready handler.old }
     ensures ready { H.ready handler.new }
-    ensures answered { GivesReply (λ reply. answers_at_doors H.answers
+    ensures answered { GivesReply (λ reply. answers_at_doors H.answers H.keeps_key
         (desk.old, record { handler = handler.old; keys = keys.now })
         (query_by passage request (Some Server)) reply
         (desk.new, record { handler = handler.new; keys = keys.now })) result }
@@ -111,7 +113,7 @@ fn refuse_server<H: SharedHandler<TenantDesks>>(
 }
 
 // Tells the number of a key's job once more.
-fn tell_again<H: SharedHandler<TenantDesks>>(
+fn tell_again<H: KeyedHandler>(
     alloc: Global,
     handler: &mut H,
     keys: &DoorKeys,
@@ -124,7 +126,7 @@ fn tell_again<H: SharedHandler<TenantDesks>>(
     requires ready { H.ready handler.old }
     requires known { job_among (keys_behind keys.now passage.door) key ≡ Some job }
     ensures ready { H.ready handler.new }
-    ensures answered { GivesReply (λ reply. answers_at_doors H.answers
+    ensures answered { GivesReply (λ reply. answers_at_doors H.answers H.keeps_key
         (desk.old, record { handler = handler.old; keys = keys.now })
         (query_by passage request (Some (Keyed (Some key)))) reply
         (desk.new, record { handler = handler.new; keys = keys.now })) result }
@@ -136,7 +138,7 @@ fn tell_again<H: SharedHandler<TenantDesks>>(
 }
 
 // Has the handler answer a submit by a new key, which is remembered if the door's own desk takes a job.
-fn submit_by_key<H: SharedHandler<TenantDesks>>(
+fn submit_by_key<H: KeyedHandler>(
     alloc: Global,
     handler: &mut H,
     keys: &mut DoorKeys,
@@ -148,13 +150,13 @@ fn submit_by_key<H: SharedHandler<TenantDesks>>(
     requires ready { H.ready handler.old }
     requires unknown { job_among (keys_behind keys.old passage.door) key ≡ None }
     ensures ready { H.ready handler.new }
-    ensures answered { GivesReply (λ reply. answers_at_doors H.answers
+    ensures answered { GivesReply (λ reply. answers_at_doors H.answers H.keeps_key
         (desk.old, record { handler = handler.old; keys = keys.old })
         (query_by passage request (Some (Keyed (Some key)))) reply
         (desk.new, record { handler = handler.new; keys = keys.new })) result }
 {
     let before = count_at(desk, passage.door);
-    let reply = handler.answer_by(alloc, desk, passage, request, None);
+    let reply = handler.answer_keyed(alloc, desk, passage, request, Some(&key));
     let after = count_at(desk, passage.door);
     if before < after {
         keys.note(passage.door, after, key);
@@ -163,7 +165,7 @@ fn submit_by_key<H: SharedHandler<TenantDesks>>(
 }
 
 // Answers a submit by a key.
-fn answer_by_key<H: SharedHandler<TenantDesks>>(
+fn answer_by_key<H: KeyedHandler>(
     alloc: Global,
     handler: &mut H,
     keys: &mut DoorKeys,
@@ -174,7 +176,7 @@ fn answer_by_key<H: SharedHandler<TenantDesks>>(
 ) -> Result<PendingReply, NoMemory>
     requires { H.ready handler.old }
     ensures ready { H.ready handler.new }
-    ensures answered { GivesReply (λ reply. answers_at_doors H.answers
+    ensures answered { GivesReply (λ reply. answers_at_doors H.answers H.keeps_key
         (desk.old, record { handler = handler.old; keys = keys.old })
         (query_by passage request (Some (Keyed (Some key)))) reply
         (desk.new, record { handler = handler.new; keys = keys.new })) result }
@@ -186,7 +188,7 @@ fn answer_by_key<H: SharedHandler<TenantDesks>>(
 }
 
 // Answers a submit that has a member `key`.
-fn answer_keyed<H: SharedHandler<TenantDesks>>(
+fn answer_keyed<H: KeyedHandler>(
     alloc: Global,
     handler: &mut H,
     keys: &mut DoorKeys,
@@ -197,7 +199,7 @@ fn answer_keyed<H: SharedHandler<TenantDesks>>(
 ) -> Result<PendingReply, NoMemory>
     requires { H.ready handler.old }
     ensures ready { H.ready handler.new }
-    ensures answered { GivesReply (λ reply. answers_at_doors H.answers
+    ensures answered { GivesReply (λ reply. answers_at_doors H.answers H.keeps_key
         (desk.old, record { handler = handler.old; keys = keys.old })
         (query_by passage request (Some (Keyed key))) reply
         (desk.new, record { handler = handler.new; keys = keys.new })) result }
@@ -211,7 +213,7 @@ fn answer_keyed<H: SharedHandler<TenantDesks>>(
 /// Answers what a door hears beyond the plain protocol. A listing, a submit whose key is none and one
 /// whose key is remembered it tells by itself: the handler is asked what is no request then. A submit
 /// by a new key the handler answers. What is asked of the server itself is refused by 73.
-pub(crate) fn answer_form<H: SharedHandler<TenantDesks>>(
+pub(crate) fn answer_form<H: KeyedHandler>(
     alloc: Global,
     handler: &mut H,
     keys: &mut DoorKeys,
@@ -222,7 +224,7 @@ pub(crate) fn answer_form<H: SharedHandler<TenantDesks>>(
 ) -> Result<PendingReply, NoMemory>
     requires { H.ready handler.old }
     ensures ready { H.ready handler.new }
-    ensures answered { GivesReply (λ reply. answers_at_doors H.answers
+    ensures answered { GivesReply (λ reply. answers_at_doors H.answers H.keeps_key
         (desk.old, record { handler = handler.old; keys = keys.old })
         (query_by passage request (Some form)) reply
         (desk.new, record { handler = handler.new; keys = keys.new })) result }

@@ -25,9 +25,9 @@ impl Model for DoorKeys {
 }
 
 impl DoorKeys {
-    ghost use Rattle.std.specs.Prelude.{◌≡◌, [], IfOk, replicate};
+    ghost use Rattle.std.specs.Prelude.{◌≡◌, ◌≤◌, ◌∷◌, ◌++◌, [], IfOk, OnErr, OnOk, length, replicate};
     ghost use Rattle.tenant_desks.specs.AtDoors.{keys_behind, with_key};
-    ghost use Rattle.tenant_desks.specs.JobKeys.{job_among};
+    ghost use Rattle.sessions.specs.JobKeys.{job_among};
 
     /// No key, at the doors of so many desks, with memory for all that they remember. Refused where
     /// there is none.
@@ -37,9 +37,30 @@ impl DoorKeys {
         let mut tables = Vec::new(alloc);
         for made in 0..count {
             let _ = made;
-            tables.push(KeyTable::new(alloc)?)?;
+            tables.push(KeyTable::of(Vec::new(alloc))?)?;
         }
         Ok(DoorKeys { tables })
+    }
+
+    /// No doors.
+    pub fn none(alloc: Global) -> DoorKeys
+        ensures { result ≡ [] }
+    {
+        DoorKeys {
+            tables: Vec::new(alloc),
+        }
+    }
+
+    /// One door more, which remembers these keys, at most 1,000. Refused where there is no memory for
+    /// all that it remembers.
+    pub fn add(&mut self, keys: Vec<KeyedJob>) -> Result<(), NoMemory>
+        requires { length keys.items ≤ 1000 }
+        ensures ok { OnOk result (self.new ≡ self.old ++ keys.items ∷ []) }
+        ensures err { OnErr result (self.new ≡ self.old) }
+    {
+        let table = KeyTable::of(keys)?;
+        self.tables.push(table)?;
+        Ok(())
     }
 
     /// The keyed jobs that a door remembers, oldest first.

@@ -1,15 +1,11 @@
 //! The keys that a door remembers.
 
-ghost use Rattle.std.specs.Prelude.{◌≡◌, [], IfOk};
-ghost use Rattle.tenant_desks.specs.JobKeys as keys_of;
+ghost use Rattle.std.specs.Prelude.{◌≡◌, ◌≤◌, IfOk, length};
+ghost use Rattle.sessions.specs.JobKeys as keys_of;
 
 use refusal::NoMemory;
-use sessions::{JobKey, KeyedJob};
-use std::alloc::Global;
+use sessions::{JobKey, KeyedJob, MOST_KEYS, note_key};
 use std::marker::Model;
-
-// How many keys a door remembers.
-const MOST_KEYS: usize = 1000;
 
 /// The keys of the last 1,000 jobs that were submitted at a door by one. Contracts see it as these,
 /// oldest first. Its memory for them is taken ahead, so that noting a key can't fail.
@@ -44,11 +40,13 @@ fn job_among(keys: &[KeyedJob], key: &JobKey) -> Option<u64>
 }
 
 impl KeyTable {
-    /// No key, and memory for all. Refused where there is none.
-    pub(crate) fn new(alloc: Global) -> Result<KeyTable, NoMemory>
-        ensures { IfOk result (λ table. table ≡ []) }
+    /// These keys, of which there are at most 1,000, and memory for all. Refused where there is none.
+    pub(crate) fn of(keys: Vec<KeyedJob>) -> Result<KeyTable, NoMemory>
+        requires { length keys.items ≤ 1000 }
+        ensures { IfOk result (λ table. table ≡ keys.items) }
     {
-        let keys = Vec::with_capacity(alloc, MOST_KEYS)?;
+        let mut keys = keys;
+        keys.reserve(MOST_KEYS - keys.len())?;
         Ok(KeyTable { keys })
     }
 
@@ -67,13 +65,9 @@ impl KeyTable {
     }
 
     /// Remembers a key for a job. Where 1,000 are remembered, the oldest one is forgotten.
-    #[tactic(auto, using(crate::proofs::KeyLemmas::noted_short, crate::proofs::KeyLemmas::noted_full))]
     pub(crate) fn note(&mut self, job: u64, key: JobKey)
         ensures { self.new ≡ keys_of.noted self.old job key }
     {
-        if self.keys.len() == MOST_KEYS {
-            let _ = self.keys.remove(0);
-        }
-        self.keys.push_reserved(KeyedJob { job, key });
+        note_key(&mut self.keys, job, key);
     }
 }

@@ -11,7 +11,7 @@ ghost use Rattle.tenant_desks.specs.Alone.{AreToldWhy, DeskEvent, HappensAlone, 
 ghost use Rattle.tenant_desks.specs.Answering.{BeginsAtDoors, KeptRunner, door_answers, tenant_answers};
 ghost use Rattle.tenant_desks.specs.AskedPlainly.{AreAskedPlainly};
 ghost use Rattle.tenant_desks.specs.AtDoors.{AsksNothing, BehindDoors, keys_behind, submit_frame, without_keys};
-ghost use Rattle.tenant_desks.specs.JobKeys.{job_among, latest};
+ghost use Rattle.sessions.specs.JobKeys.{job_among, latest};
 ghost use Rattle.tenant_desks.specs.KeyedHistories.{AreKeyed};
 ghost use Rattle.tenant_desks.specs.OwnNamed.{AreAskedByName};
 ghost use Rattle.tenant_desks.specs.Events.{EachTwo, HappensAlike, IsToldAlike};

@@ -7,7 +7,7 @@ mod first_desks;
 mod routing;
 
 pub use desks::TenantDesks;
-pub use routing::desk_for;
+pub use routing::{desk_for, place_behind};
 
 // the runner that all desks share
 mod ends;
@@ -34,9 +34,11 @@ mod door_answers;
 mod door_keys;
 mod job_lists;
 mod key_table;
+mod keyed_handler;
 mod tenant_doors;
 
 pub use door_keys::DoorKeys;
+pub use keyed_handler::KeyedHandler;
 pub use tenant_doors::TenantDoors;
 
 // what each tenant has of it

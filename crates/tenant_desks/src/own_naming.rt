@@ -1,9 +1,10 @@
 //! A handler of tenants' desks at whose doors a tenant's name may be left out.
 
 use crate::desks::TenantDesks;
+use crate::keyed_handler::KeyedHandler;
 use crate::own_names::own_named;
 use refusal::NoMemory;
-use sessions::{DoorForm, Request};
+use sessions::{DoorForm, JobKey, Request};
 use shared_desk::{Passage, SharedHandler};
 use std::alloc::Global;
 use std::marker::Model;
@@ -54,5 +55,23 @@ impl<H: SharedHandler<TenantDesks>> SharedHandler<TenantDesks> for OwnNaming<H> 
     ) -> Result<PendingReply, NoMemory> {
         let named = own_named(alloc, &desk.names, passage.door, request);
         self.handler.answer_by(alloc, desk, passage, named, None)
+    }
+}
+
+/// No key is kept beside the desks.
+impl<H: SharedHandler<TenantDesks>> KeyedHandler for OwnNaming<H> {
+    ghost use Rattle.tenant_desks.specs.AtDoors.{keeps_no_key};
+
+    ghost keeps_key = { keeps_no_key };
+
+    fn answer_keyed(
+        &mut self,
+        alloc: Global,
+        desk: &mut TenantDesks,
+        passage: Passage,
+        request: PreparedRequest,
+        _key: Option<&JobKey>,
+    ) -> Result<PendingReply, NoMemory> {
+        self.answer_by(alloc, desk, passage, request, None)
     }
 }

@@ -31,7 +31,7 @@ pub(crate) fn tenant_place(names: &[String], name: &str) -> usize
 }
 
 /// The place of the desk that a door belongs to.
-pub(crate) fn place_behind(door: Door) -> usize
+pub fn place_behind(door: Door) -> usize
     ensures place { result ≡ routing.place_behind door }
     ensures small { result ≤ 256 }
 {

@@ -3,6 +3,7 @@
 use crate::desks::TenantDesks;
 use crate::door_answers::answer_form;
 use crate::door_keys::DoorKeys;
+use crate::keyed_handler::KeyedHandler;
 use refusal::NoMemory;
 use sessions::{DoorForm, Request};
 use shared_desk::{Passage, SharedHandler};
@@ -38,12 +39,12 @@ impl<H: Drop> TenantDoors<H> {
     }
 }
 
-impl<H: SharedHandler<TenantDesks>> SharedHandler<TenantDesks> for TenantDoors<H> {
+impl<H: KeyedHandler> SharedHandler<TenantDesks> for TenantDoors<H> {
     ghost use Rattle.tenant_desks.specs.AtDoors.{answers_at_doors};
 
     ghost ready = { λ d. H.ready d.handler };
 
-    ghost answers = { answers_at_doors H.answers };
+    ghost answers = { answers_at_doors H.answers H.keeps_key };
 
     fn wants_admission(&self, desk: &TenantDesks, passage: Passage, request: &Request) -> bool {
         self.handler.wants_admission(desk, passage, request)
@@ -58,7 +59,9 @@ impl<H: SharedHandler<TenantDesks>> SharedHandler<TenantDesks> for TenantDoors<H
         beyond: Option<DoorForm>,
     ) -> Result<PendingReply, NoMemory> {
         match beyond {
-            None => self.handler.answer_by(alloc, desk, passage, request, None),
+            None => self
+                .handler
+                .answer_keyed(alloc, desk, passage, request, None),
             Some(form) => {
                 let TenantDoors { handler, keys } = self;
                 answer_form(alloc, handler, keys, desk, passage, request, form)

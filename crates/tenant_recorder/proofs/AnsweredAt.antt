@@ -1,5 +1,5 @@
 -- The answer at one desk, and at one of many.
-use Rattle.std.proofs.Common.{◌≡◌, ◌⊎◌, ℕ, false, List, slice_get, slice_set, Option, Some, Result, Ok, Err, IfOk, OnErr, refl, sym, subst, ◌∙◌, inl, inr}
+use Rattle.std.proofs.Common.{◌≡◌, ◌⊎◌, ℕ, false, List, [], ◌++◌, append-nil, length, slice_get, slice_set, Option, Some, Result, Ok, Err, IfOk, OnErr, refl, sym, ap, subst, ◌∙◌, inl, inr}
 use Rattle.refusal.specs.declared.NoMemory.{NoMemory}
 use Rattle.credit_book.specs.declared.book.Report.{Report}
 use Rattle.credit_book.specs.declared.board.Progress.{Progress}
@@ -9,9 +9,10 @@ use Rattle.accounts.specs.Ledgers.{Ledger, KeepsWithin}
 use Rattle.sessions.specs.Grammar.{Asked}
 use Rattle.sessions.specs.Replies.{frame_of}
 use Rattle.streams.specs.Answering.{Framed, Replies}
-use Rattle.desk_recorder.specs.Recording.{IsRecorded, RecordsMore}
+use Rattle.desk_recorder.specs.Recording.{IsRecorded, RecordsMore, keyed_taken}
 use Rattle.desk_recorder.specs.declared.recorder.ChangeRecorder.{ChangeRecorder}
-use Rattle.desk_recorder.proofs.Composed.{records_then}
+use Rattle.desk_recorder.proofs.Composed.{keyed_behind, records_both, records_keyed}
+use Rattle.sessions.specs.declared.job_key.KeyedJob.{KeyedJob}
 use Rattle.tenant_desks.specs.declared.placed_runner.PlacedRunner.{PlacedRunner}
 use Rattle.tenant_desks.specs.PlacedRunners.{starts_placed, looks_placed}
 use Rattle.tenant_desks.specs.Answering.{AnswersAlone, DeskAnswer, PassesEnds, for_place, refusal_frame}
@@ -21,15 +22,15 @@ use Rattle.tenant_recorder.proofs.Forgotten.{keeps_again}
 
 -- the recorder notes what the answer changes, and then what is forgotten, and begins anew
 module _ {Q : Type 0} (taken : Q → List ℕ) (failed : Q → Type 0) (keep : KeepLimits) (old mid new : Ledger) (before replied kept after : ChangeRecorder Q)
-    (first : IsRecorded taken failed before replied old mid) (keeps : KeepsWithin keep mid new ⊎ ((new ≡ mid) × (replied.has_changed ≡ false)))
-    (second : IsRecorded taken failed replied kept mid new) (queue : after.queue ≡ kept.queue) (stopped : after.is_stopped ≡ kept.is_stopped) where
-  pub takes_all : TakesRecords taken failed before after old new
+    (ks : List KeyedJob) (first : IsRecorded taken failed before replied old mid ks) (keeps : KeepsWithin keep mid new ⊎ ((new ≡ mid) × (replied.has_changed ≡ false)))
+    (second : IsRecorded taken failed replied kept mid new []) (queue : after.queue ≡ kept.queue) (stopped : after.is_stopped ≡ kept.is_stopped) where
+  pub takes_all : TakesRecords taken failed before after old new ks
   takes_all =
-      let all = records_then taken failed before replied kept old mid new first second in
+      let all = records_keyed taken failed before kept old new ks (ks ++ []) (sym (append-nil ks)) (records_both taken failed before replied kept old mid new ks [] first second) in
       record {
         going = λ on. all.going (sym stopped ∙ on);
         told = λ had on. subst failed (sym queue) (all.told had (sym stopped ∙ on));
-        records = λ on. subst (λ (q : Q). RecordsMore taken before.queue q old new) (sym queue) (all.records (sym stopped ∙ on));
+        records = λ on. subst (λ (q : Q). RecordsMore taken before.queue q old new ks) (sym queue) (all.records (sym stopped ∙ on));
       }
 
   pub keeps_last : (before.has_changed ≡ false → KeepsWithin keep old old) → KeepsWithin keep mid new
@@ -45,6 +46,17 @@ module _ {Q : Type 0} (taken : Q → List ℕ) (failed : Q → Type 0) (keep : K
 
   pub keeps_so : (before.has_changed ≡ false → KeepsWithin keep old old) → KeepsWithin keep new new
   keeps_so forgot = keeps_again keep mid new (keeps_last forgot)
+
+-- ---- the key of a job that was taken
+
+-- a desk that forgets has as many jobs
+pub kept_count : (keep : KeepLimits) (mid new : Ledger) (other : Type 0) → KeepsWithin keep mid new ⊎ ((new ≡ mid) × other) → length new.jobs ≡ length mid.jobs
+kept_count keep mid new other (inl keeps) = keeps.1.forgets.jobs.count
+kept_count keep mid new other (inr same) = ap (λ (l : Ledger). length l.jobs) same.0
+
+pub takes_keyed : {Q : Type 0} (taken : Q → List ℕ) (failed : Q → Type 0) (p q : ChangeRecorder Q) (old mid new : Ledger) (key : Option (List ℕ)) → length new.jobs ≡ length mid.jobs
+    → TakesRecords taken failed p q old new (keyed_taken key old mid) → TakesRecords taken failed p q old new (keyed_taken key old new)
+takes_keyed taken failed p q old mid new key same takes = subst (λ (ks : List KeyedJob). TakesRecords taken failed p q old new ks) (sym (keyed_behind key old mid new same)) takes
 
 -- what is replied and then forgotten is an answer of a desk alone
 module _ {P : Type 0} (starts : P → ℕ → AdmittedJob → Result (Unit {0}) ℕ → P → Type 0) (looks : P → ℕ → Progress → P → Type 0) (keep : KeepLimits) (query : Result Asked ℕ)

@@ -1,12 +1,13 @@
 -- Recorders and desks, place by place.
-use Rattle.std.proofs.Common.{◌≡◌, ◌≢◌, ◌⊎◌, ℕ, zero, suc, List, [], ◌∷◌, length, slice_get, slice_set, Some, refl, sym, subst, ◌∙◌, inl, inr, arith}
+use Rattle.std.proofs.Common.{◌≡◌, ◌≢◌, ◌⊎◌, ℕ, zero, suc, List, [], ◌∷◌, ◌++◌, length, slice_get, slice_set, Some, refl, sym, subst, ◌∙◌, inl, inr, arith}
 use Rattle.std.proofs.lemmas.List.{length-set}
 use Rattle.accounts.specs.Ledgers.{Ledger}
+use Rattle.sessions.specs.declared.job_key.KeyedJob.{KeyedJob}
 use Rattle.desk_recorder.specs.Recording.{IsRecorded}
 use Rattle.desk_recorder.specs.declared.recorder.ChangeRecorder.{ChangeRecorder}
-use Rattle.desk_recorder.proofs.Composed.{more_then, records_nothing, records_then}
+use Rattle.desk_recorder.proofs.Composed.{more_both, records_nothing, records_then}
 use Rattle.tenant_desks.proofs.ChangedDesks.{set_at}
-use Rattle.tenant_recorder.specs.Recorders.{AreRecorded, EachRecorder, TakesRecords}
+use Rattle.tenant_recorder.specs.Recorders.{AreRecorded, EachRecorder, IsRecordedPlainly, TakesRecords, TakesSome}
 
 -- another list of this length has something at the same place
 pub there : {X Y : Type 0} (xs : List X) (ys : List Y) (i : ℕ) (x : X) → length ys ≡ length xs → slice_get xs i ≡ Some x → (y : Y) × (slice_get ys i ≡ Some y)
@@ -81,41 +82,48 @@ module _ {Q : Type 0} where
       by i r s m n at_r at_m (inr t) (inr u) = both_same P r s m n (one_there ps i r s at_r t.1) (one_there ds i m n at_m u.1) (none r m)
 
 module _ {Q : Type 0} (taken : Q → List ℕ) (failed : Q → Type 0) where
-  pub takes_of : (p q : ChangeRecorder Q) (d e : Ledger) → IsRecorded taken failed p q d e → TakesRecords taken failed p q d e
-  takes_of p q d e records = record { going = records.going; told = records.told; records = records.records }
+  pub takes_of : (p q : ChangeRecorder Q) (d e : Ledger) (ks : List KeyedJob) → IsRecorded taken failed p q d e ks → TakesRecords taken failed p q d e ks
+  takes_of p q d e ks records = record { going = records.going; told = records.told; records = records.records }
 
-  pub takes_then : (p q r : ChangeRecorder Q) (d m e : Ledger) → TakesRecords taken failed p q d m → TakesRecords taken failed q r m e → TakesRecords taken failed p r d e
-  takes_then p q r d m e first second = record {
+  pub takes_both : (p q r : ChangeRecorder Q) (d m e : Ledger) (ks ls : List KeyedJob) → TakesRecords taken failed p q d m ks → TakesRecords taken failed q r m e ls → TakesRecords taken failed p r d e (ks ++ ls)
+  takes_both p q r d m e ks ls first second = record {
     going = λ on. first.going (second.going on);
     told = λ had. second.told (first.told had);
-    records = λ on. more_then taken failed p.queue q.queue r.queue d m e (first.records (second.going on)) (second.records on);
+    records = λ on. more_both taken failed p.queue q.queue r.queue d m e ks ls (first.records (second.going on)) (second.records on);
   }
 
-  pub takes_nothing : (p : ChangeRecorder Q) (d : Ledger) → TakesRecords taken failed p p d d
-  takes_nothing p d = takes_of p p d d (records_nothing taken failed p d d refl)
+  pub takes_nothing : (p : ChangeRecorder Q) (d : Ledger) → TakesRecords taken failed p p d d []
+  takes_nothing p d = takes_of p p d d [] (records_nothing taken failed p d d refl)
+
+  -- the same with whichever keyed jobs there were
+  takes_some_then : (p q r : ChangeRecorder Q) (d m e : Ledger) → TakesSome taken failed p q d m → TakesSome taken failed q r m e → TakesSome taken failed p r d e
+  takes_some_then p q r d m e first second = (first.0 ++ second.0, takes_both p q r d m e first.0 second.0 first.1 second.1)
+
+  takes_none : (p : ChangeRecorder Q) (d : Ledger) → TakesSome taken failed p p d d
+  takes_none p d = ([], takes_nothing p d)
 
   -- ---- of all desks
 
-  pub noted_then : (ps qs rs : List (ChangeRecorder Q)) (ds ms es : List Ledger) → EachRecorder (IsRecorded taken failed) ps qs ds ms → EachRecorder (IsRecorded taken failed) qs rs ms es
-      → EachRecorder (IsRecorded taken failed) ps rs ds es
-  noted_then ps qs rs ds ms es = each_then (IsRecorded taken failed) (IsRecorded taken failed) (IsRecorded taken failed) ps qs rs ds ms es (records_then taken failed)
+  pub noted_then : (ps qs rs : List (ChangeRecorder Q)) (ds ms es : List Ledger) → EachRecorder (IsRecordedPlainly taken failed) ps qs ds ms → EachRecorder (IsRecordedPlainly taken failed) qs rs ms es
+      → EachRecorder (IsRecordedPlainly taken failed) ps rs ds es
+  noted_then ps qs rs ds ms es = each_then (IsRecordedPlainly taken failed) (IsRecordedPlainly taken failed) (IsRecordedPlainly taken failed) ps qs rs ds ms es (records_then taken failed)
 
-  pub noted_nothing : (ps : List (ChangeRecorder Q)) (ds : List Ledger) → EachRecorder (IsRecorded taken failed) ps ps ds ds
-  noted_nothing ps ds = each_same (IsRecorded taken failed) ps ds (λ p d. records_nothing taken failed p d d refl)
+  pub noted_nothing : (ps : List (ChangeRecorder Q)) (ds : List Ledger) → EachRecorder (IsRecordedPlainly taken failed) ps ps ds ds
+  noted_nothing ps ds = each_same (IsRecordedPlainly taken failed) ps ds (λ p d. records_nothing taken failed p d d refl)
 
   pub noted_at : (ps : List (ChangeRecorder Q)) (ds : List Ledger) (place : ℕ) (p q : ChangeRecorder Q) (d e : Ledger) → slice_get ps place ≡ Some p → slice_get ds place ≡ Some d
-      → IsRecorded taken failed p q d e → EachRecorder (IsRecorded taken failed) ps (slice_set ps place q) ds (slice_set ds place e)
-  noted_at ps ds place p q d e = each_at (IsRecorded taken failed) ps ds place p q d e (λ r m. records_nothing taken failed r m m refl)
+      → IsRecorded taken failed p q d e [] → EachRecorder (IsRecordedPlainly taken failed) ps (slice_set ps place q) ds (slice_set ds place e)
+  noted_at ps ds place p q d e = each_at (IsRecordedPlainly taken failed) ps ds place p q d e (λ r m. records_nothing taken failed r m m refl)
 
-  pub are_recorded : (ps qs : List (ChangeRecorder Q)) (ds es : List Ledger) → EachRecorder (IsRecorded taken failed) ps qs ds es → AreRecorded taken failed ps qs ds es
-  are_recorded ps qs ds es = each_as (IsRecorded taken failed) (TakesRecords taken failed) ps qs ds es takes_of
+  pub are_recorded : (ps qs : List (ChangeRecorder Q)) (ds es : List Ledger) → EachRecorder (IsRecordedPlainly taken failed) ps qs ds es → AreRecorded taken failed ps qs ds es
+  are_recorded ps qs ds es = each_as (IsRecordedPlainly taken failed) (TakesSome taken failed) ps qs ds es (λ p q d e records. ([], takes_of p q d e [] records))
 
   pub recorded_then : (ps qs rs : List (ChangeRecorder Q)) (ds ms es : List Ledger) → AreRecorded taken failed ps qs ds ms → AreRecorded taken failed qs rs ms es → AreRecorded taken failed ps rs ds es
-  recorded_then ps qs rs ds ms es = each_then (TakesRecords taken failed) (TakesRecords taken failed) (TakesRecords taken failed) ps qs rs ds ms es takes_then
+  recorded_then ps qs rs ds ms es = each_then (TakesSome taken failed) (TakesSome taken failed) (TakesSome taken failed) ps qs rs ds ms es takes_some_then
 
   pub recorded_nothing : (ps : List (ChangeRecorder Q)) (ds : List Ledger) → AreRecorded taken failed ps ps ds ds
-  recorded_nothing ps ds = each_same (TakesRecords taken failed) ps ds takes_nothing
+  recorded_nothing ps ds = each_same (TakesSome taken failed) ps ds takes_none
 
   pub recorded_at : (ps : List (ChangeRecorder Q)) (ds : List Ledger) (place : ℕ) (p q : ChangeRecorder Q) (d e : Ledger) → slice_get ps place ≡ Some p → slice_get ds place ≡ Some d
-      → TakesRecords taken failed p q d e → AreRecorded taken failed ps (slice_set ps place q) ds (slice_set ds place e)
-  recorded_at ps ds place p q d e = each_at (TakesRecords taken failed) ps ds place p q d e takes_nothing
+      → TakesSome taken failed p q d e → AreRecorded taken failed ps (slice_set ps place q) ds (slice_set ds place e)
+  recorded_at ps ds place p q d e = each_at (TakesSome taken failed) ps ds place p q d e takes_none

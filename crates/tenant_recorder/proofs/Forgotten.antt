@@ -5,10 +5,9 @@ use Rattle.std.proofs.lemmas.List.{length-set}
 use Rattle.accounts.specs.declared.keep_limits.KeepLimits.{KeepLimits}
 use Rattle.accounts.proofs.Forgets.{forgets_none}
 use Rattle.accounts.specs.Ledgers.{Ledger, KeepsWithin}
-use Rattle.desk_recorder.specs.Recording.{IsRecorded}
 use Rattle.desk_recorder.specs.declared.recorder.ChangeRecorder.{ChangeRecorder}
 use Rattle.tenant_desks.proofs.ChangedDesks.{set_at}
-use Rattle.tenant_recorder.specs.Recorders.{EachRecorder, HaveForgotten, IsNewRecorder}
+use Rattle.tenant_recorder.specs.Recorders.{EachRecorder, HaveForgotten, IsNewRecorder, IsRecordedPlainly}
 use Rattle.tenant_recorder.proofs.EachPlace.{there}
 
 -- ---- what was forgotten is forgotten
@@ -54,7 +53,7 @@ module _ {Q : Type 0} where
   }
 
   -- changes that are noted leave it so
-  pub forgotten_noted : (taken : Q → List ℕ) (failed : Q → Type 0) (keep : KeepLimits) (ps qs : List (ChangeRecorder Q)) (ds es : List Ledger) → EachRecorder (IsRecorded taken failed) ps qs ds es
+  pub forgotten_noted : (taken : Q → List ℕ) (failed : Q → Type 0) (keep : KeepLimits) (ps qs : List (ChangeRecorder Q)) (ds es : List Ledger) → EachRecorder (IsRecordedPlainly taken failed) ps qs ds es
       → HaveForgotten keep ds ps → HaveForgotten keep es qs
   forgotten_noted taken failed keep ps qs ds es noted had = record {
     paired = noted.recorders ∙ had.paired ∙ sym noted.desks;

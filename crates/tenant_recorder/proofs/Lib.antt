@@ -5,4 +5,6 @@ mod Handled
 mod Restarted
 pub mod Recovered
 mod Credited
+mod KeyedAt
+mod KeysRecorded
 pub mod RecordedNames

@@ -8,7 +8,9 @@ use Rattle.shared_desk.specs.Histories.{HistoryEntry, Replays, none_yet, one_mor
 use Rattle.tenant_desks.specs.Tenancies.{Tenancy}
 use Rattle.tenant_desks.specs.Alone.{IsTenantHistory}
 use Rattle.tenant_desks.specs.Answering.{KeptRunner, named_answers}
+use Rattle.sessions.specs.declared.job_key.KeyedJob.{KeyedJob}
 use Rattle.desk_recorder.specs.Histories.{IsDeskHistory, RecordsLead}
+use Rattle.desk_recorder.specs.Recording.{noted_each}
 use Rattle.desk_recorder.specs.declared.recorder.ChangeRecorder.{ChangeRecorder}
 use Rattle.desk_recorder.proofs.Composed.{leads_on}
 use Rattle.tenant_recorder.specs.Recorders.{AreRecorded}
@@ -21,11 +23,12 @@ module _ {R Q : Type 0} (starts : R → ℕ → AdmittedJob → Result (Unit {0}
   State = Tenancy × RecordedRunner R Q
 
   -- what each recorder took is what changed its desk
-  pub led_at : (before after : List (ChangeRecorder Q)) (old new : List Ledger) (place : ℕ) (p q : ChangeRecorder Q) (d e : Ledger) (history : List (List ℕ))
+  pub led_at : (before after : List (ChangeRecorder Q)) (old new : List Ledger) (place : ℕ) (p q : ChangeRecorder Q) (d e : Ledger) (history : List (List ℕ)) (keys : List KeyedJob)
       → AreRecorded taken failed before after old new → slice_get before place ≡ Some p → slice_get after place ≡ Some q → slice_get old place ≡ Some d → slice_get new place ≡ Some e
-      → IsDeskHistory history d → q.is_stopped ≡ false → RecordsLead taken p.queue q.queue history e
-  led_at before after old new place p q d e history records at_p at_q at_d at_e led on =
-      leads_on taken failed p.queue q.queue history d e led ((records.each place p q d e at_p at_q at_d at_e).records on)
+      → IsDeskHistory history d keys → q.is_stopped ≡ false → (keyed : List KeyedJob) × RecordsLead taken p.queue q.queue history e (noted_each keys keyed)
+  led_at before after old new place p q d e history keys records at_p at_q at_d at_e led on =
+      let more = records.each place p q d e at_p at_q at_d at_e in
+      (more.0, leads_on taken failed p.queue q.queue history keys more.0 d e led (more.1.records on))
 
   -- so it is over a history
   all_recorded : (s : State) (answers : List HistoryEntry) (t : State) → Replays (named_answers_recorded starts looks takes taken failed) (λ x. x ≡ s) answers t
@@ -39,12 +42,12 @@ module _ {R Q : Type 0} (starts : R → ℕ → AdmittedJob → Result (Unit {0}
       → AreRecorded taken failed s.1.recorders t.1.recorders s.0.desks t.0.desks
   answers_recorded answers s t replays = all_recorded s answers t replays
 
-  pub answers_lead : (answers : List HistoryEntry) (s t : State) (place : ℕ) (p q : ChangeRecorder Q) (d e : Ledger) (history : List (List ℕ))
+  pub answers_lead : (answers : List HistoryEntry) (s t : State) (place : ℕ) (p q : ChangeRecorder Q) (d e : Ledger) (history : List (List ℕ)) (keys : List KeyedJob)
       → Replays (named_answers_recorded starts looks takes taken failed) (λ x. x ≡ s) answers t
       → slice_get s.1.recorders place ≡ Some p → slice_get t.1.recorders place ≡ Some q → slice_get s.0.desks place ≡ Some d → slice_get t.0.desks place ≡ Some e
-      → IsDeskHistory history d → q.is_stopped ≡ false → RecordsLead taken p.queue q.queue history e
-  answers_lead answers s t place p q d e history replays =
-      led_at s.1.recorders t.1.recorders s.0.desks t.0.desks place p q d e history (all_recorded s answers t replays)
+      → IsDeskHistory history d keys → q.is_stopped ≡ false → (keyed : List KeyedJob) × RecordsLead taken p.queue q.queue history e (noted_each keys keyed)
+  answers_lead answers s t place p q d e history keys replays =
+      led_at s.1.recorders t.1.recorders s.0.desks t.0.desks place p q d e history keys (all_recorded s answers t replays)
 
   -- the recorders change no answer
 

@@ -1,8 +1,8 @@
 //! The credit that tenants are granted at first, recorded.
 
-ghost use Rattle.std.specs.Prelude.{◌≡◌, ◌+◌, OnOk, length, map, string_bytes};
+ghost use Rattle.std.specs.Prelude.{◌≡◌, ◌+◌, [], OnOk, length, map, string_bytes};
 ghost use Rattle.desk_recorder.specs.Recording.{IsRecorded};
-ghost use Rattle.tenant_recorder.specs.Recorders.{EachRecorder};
+ghost use Rattle.tenant_recorder.specs.Recorders.{EachRecorder, IsRecordedPlainly};
 ghost use Rattle.tenant_recorder.specs.TenantCredits.{AreCredited, HasFirstCredit};
 
 use accounts::Desk;
@@ -20,7 +20,7 @@ fn credit_at<Q: RecordQueue>(
     credit: Option<u32>,
 ) -> Result<(), NoMemory>
     ensures credited { OnOk result (HasFirstCredit name.now credit desk.old desk.new) }
-    ensures records { IsRecorded Q.taken Q.has_failed recorder.old recorder.new desk.old desk.new }
+    ensures records { IsRecorded Q.taken Q.has_failed recorder.old recorder.new desk.old desk.new [] }
 {
     let Some(amount) = credit else {
         return Ok(());
@@ -46,7 +46,7 @@ pub(crate) fn credit_each<Q: RecordQueue>(
     requires tenants { length desks.old.items ≡ length tenants.now + 1 }
     ensures credited { OnOk result (AreCredited (map (λ x. (string_bytes x.0, x.1)) tenants.now)
         desks.old.items desks.new.items) }
-    ensures records { EachRecorder (IsRecorded Q.taken Q.has_failed) recorders.old.items
+    ensures records { EachRecorder (IsRecordedPlainly Q.taken Q.has_failed) recorders.old.items
         recorders.new.items desks.old.items desks.new.items }
 {
     let mut place = 1;

@@ -1,9 +1,8 @@
 //! Finished jobs, each passed to its own desk and recorded in that desk's queue.
 
 ghost use Rattle.std.specs.Prelude.{◌≡◌, length};
-ghost use Rattle.desk_recorder.specs.Recording.{IsRecorded};
 ghost use Rattle.tenant_desks.specs.Answering.{NotesAtPlace, PassesEnds};
-ghost use Rattle.tenant_recorder.specs.Recorders.{EachRecorder};
+ghost use Rattle.tenant_recorder.specs.Recorders.{EachRecorder, IsRecordedPlainly};
 
 use accounts::Desk;
 use credit_book::Report;
@@ -23,7 +22,7 @@ fn note_end<Q: RecordQueue>(
 )
     requires { length recorders.old.items ≡ length desks.old.items }
     ensures noted { NotesAtPlace desks.old.items number outcome desks.new.items }
-    ensures records { EachRecorder (IsRecorded Q.taken Q.has_failed) recorders.old.items
+    ensures records { EachRecorder (IsRecordedPlainly Q.taken Q.has_failed) recorders.old.items
         recorders.new.items desks.old.items desks.new.items }
 {
     let (own, place) = own_number(number);
@@ -50,7 +49,7 @@ pub(crate) fn pass_ends<N: Runner, Q: RecordQueue>(
     requires paired { length recorders.old.items ≡ length desks.old.items }
     ensures ready { N.ready runner.new }
     ensures passed { PassesEnds N.takes desks.old.items runner.old desks.new.items runner.new }
-    ensures records { EachRecorder (IsRecorded Q.taken Q.has_failed) recorders.old.items
+    ensures records { EachRecorder (IsRecordedPlainly Q.taken Q.has_failed) recorders.old.items
         recorders.new.items desks.old.items desks.new.items }
 {
     'jobs: loop {

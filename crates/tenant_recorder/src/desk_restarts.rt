@@ -3,12 +3,11 @@
 ghost use Rattle.std.specs.Prelude.{◌≡◌, ◌≤◌, ◌<◌, length, map, Vec};
 ghost use Rattle.std.specs.declared.alloc.Global.{Global};
 ghost use Rattle.desk_journal.specs.declared.journaled_desk.OpenJob.{OpenJob};
-ghost use Rattle.desk_recorder.specs.Recording.{IsRecorded};
 ghost use Rattle.desk_recorder.specs.Restarts.{StartsEach};
 ghost use Rattle.tenant_desks.specs.Answering.{for_place};
 ghost use Rattle.tenant_desks.specs.PlacedRunners.{starts_placed};
 ghost use Rattle.tenant_desks.specs.Tenancies.{ChangesAt};
-ghost use Rattle.tenant_recorder.specs.Recorders.{EachRecorder};
+ghost use Rattle.tenant_recorder.specs.Recorders.{EachRecorder, IsRecordedPlainly};
 ghost use Rattle.tenant_recorder.specs.TenantRestarts.{RestartsEach};
 
 use accounts::Desk;
@@ -36,7 +35,7 @@ fn restart_at<N: Runner, Q: RecordQueue>(
         (λ d e. StartsEach (starts_placed N.starts) d (for_place place runner.old.runner) jobs.items e
         (for_place place runner.new.runner))
         desks.old.items desks.new.items }
-    ensures records { EachRecorder (IsRecorded Q.taken Q.has_failed) recorders.old.items
+    ensures records { EachRecorder (IsRecordedPlainly Q.taken Q.has_failed) recorders.old.items
         recorders.new.items desks.old.items desks.new.items }
 {
     runner.place = place as u16;
@@ -65,7 +64,7 @@ pub(crate) fn restart_each<N: Runner, Q: RecordQueue>(
     ensures ready { N.ready runner.new.runner }
     ensures starts { RestartsEach N.starts desks.old.items runner.old.runner
         (map (λ (v : Vec OpenJob Global). v.items) jobs.items) desks.new.items runner.new.runner }
-    ensures records { EachRecorder (IsRecorded Q.taken Q.has_failed) recorders.old.items
+    ensures records { EachRecorder (IsRecordedPlainly Q.taken Q.has_failed) recorders.old.items
         recorders.new.items desks.old.items desks.new.items }
 {
     let mut place = 0;

@@ -16,4 +16,7 @@ pub use recording_tenants::RecordingTenantHandler;
 // what the records lead to
 mod laws;
 
-pub use laws::{recorded_names_are_put_in, recorders_change_no_answer, records_lead_to_desks};
+pub use laws::{
+    recorded_names_are_put_in, recorders_change_no_answer, records_lead_to_desks,
+    remembered_keys_are_recorded,
+};

@@ -9,7 +9,7 @@ use desk_journal::OpenJob;
 use desk_recorder::{ChangeRecorder, RecordQueue};
 use refusal::NoMemory;
 use server_log::{ServerLog, tell_answer};
-use sessions::{DoorForm, Request};
+use sessions::{DoorForm, JobKey, Request};
 use shared_desk::{Passage, SharedHandler};
 use std::alloc::Global;
 use std::marker::Model;
@@ -17,7 +17,8 @@ use std::sync::Wait;
 use std::time::Clock;
 use streams::{PendingReply, PreparedRequest, Runner};
 use tenant_desks::{
-    PlacedRunner, TenantDesks, granted_among, noted_grant_among, refuse, wants_admission_among,
+    KeyedHandler, PlacedRunner, TenantDesks, granted_among, noted_grant_among, refuse,
+    wants_admission_among,
 };
 
 // The number of the refusal of what has no desk here.
@@ -134,6 +135,51 @@ impl<'a, R, N: Runner + Drop, Q: RecordQueue> RecordingTenantHandler<'a, R, N, Q
     }
 }
 
+impl<R: Wait + Clock, N: Runner, Q: RecordQueue> RecordingTenantHandler<'_, R, N, Q> {
+    ghost use Rattle.std.specs.Prelude.{◌≡◌, ℕ, List, IfOk, None, OnErr, option_map};
+    ghost use Rattle.shared_desk.specs.Answered.{query_by};
+    ghost use Rattle.tenant_recorder.specs.TenantsRecorded.{keeps_recorded_key, named_answers_recorded};
+
+    // Answers a plain request, a submit by the key that it came by.
+    fn answer(
+        &mut self,
+        alloc: Global,
+        desk: &mut TenantDesks,
+        passage: Passage,
+        request: PreparedRequest,
+        key: Option<&JobKey>,
+    ) -> Result<PendingReply, NoMemory>
+        requires { N.ready self.old.runner }
+        ensures ready { N.ready self.new.runner }
+        ensures ok { IfOk result (λ reply. named_answers_recorded N.starts N.looks N.takes Q.taken
+            Q.has_failed (desk.old, self.old) (query_by passage request None) reply
+            (desk.new, self.new)) }
+        ensures err { OnErr result ((reply : List ℕ) × named_answers_recorded N.starts N.looks
+            N.takes Q.taken Q.has_failed (desk.old, self.old) (query_by passage request None) reply
+            (desk.new, self.new)) }
+        ensures kept { keeps_recorded_key Q.taken Q.has_failed (desk.old, self.old) passage.door
+            (option_map (λ k. k.now) key.entry) (desk.new, self.new) }
+    {
+        if self.recorders.len() != desk.desks.len() {
+            return refuse(alloc, NO_TENANT);
+        }
+        let note = noted_grant_among(alloc, self.log, desk, &request);
+        let (refusal, reply) = answer_among(
+            alloc,
+            &desk.names,
+            &mut desk.desks,
+            &mut self.runner,
+            &mut self.recorders,
+            self.keep,
+            passage,
+            key,
+            request,
+        );
+        tell_answer(self.rt, self.log, refusal, granted_among(desk, note));
+        reply
+    }
+}
+
 impl<R: Wait + Clock, N: Runner, Q: RecordQueue> SharedHandler<TenantDesks>
     for RecordingTenantHandler<'_, R, N, Q> {
     ghost use Rattle.tenant_recorder.specs.TenantsRecorded.{named_answers_recorded};
@@ -155,21 +201,24 @@ impl<R: Wait + Clock, N: Runner, Q: RecordQueue> SharedHandler<TenantDesks>
         beyond: Option<DoorForm>,
     ) -> Result<PendingReply, NoMemory> {
         let _ = beyond; // plain requests alone are heard here
-        if self.recorders.len() != desk.desks.len() {
-            return refuse(alloc, NO_TENANT);
-        }
-        let note = noted_grant_among(alloc, self.log, desk, &request);
-        let (refusal, reply) = answer_among(
-            alloc,
-            &desk.names,
-            &mut desk.desks,
-            &mut self.runner,
-            &mut self.recorders,
-            self.keep,
-            passage,
-            request,
-        );
-        tell_answer(self.rt, self.log, refusal, granted_among(desk, note));
-        reply
+        self.answer(alloc, desk, passage, request, None)
+    }
+}
+
+impl<R: Wait + Clock, N: Runner, Q: RecordQueue> KeyedHandler
+    for RecordingTenantHandler<'_, R, N, Q> {
+    ghost use Rattle.tenant_recorder.specs.TenantsRecorded.{keeps_recorded_key};
+
+    ghost keeps_key = { keeps_recorded_key Q.taken Q.has_failed };
+
+    fn answer_keyed(
+        &mut self,
+        alloc: Global,
+        desk: &mut TenantDesks,
+        passage: Passage,
+        request: PreparedRequest,
+        key: Option<&JobKey>,
+    ) -> Result<PendingReply, NoMemory> {
+        self.answer(alloc, desk, passage, request, key)
     }
 }

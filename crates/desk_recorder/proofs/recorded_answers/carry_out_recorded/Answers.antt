@@ -1,7 +1,8 @@
-use Rattle.std.proofs.Common.{refl, rules}
+use Rattle.std.proofs.Common.{ap, length, refl, rules}
+use Rattle.accounts.specs.Ledgers.{Ledger}
 use Rattle.streams.proofs.Answered.{framed_as}
 use Rattle.streams.proofs.EachForm.{to_grant, to_account, to_status, to_result}
-use Rattle.desk_recorder.proofs.Composed.{records_nothing}
+use Rattle.desk_recorder.proofs.Composed.{keyed_none, records_nothing, records_unkeyed}
 use Rattle.desk_recorder.proofs.recorded_answers.carry_out_recorded.Goals as goal
 
 pub returns-in-Grant-clause-done : goal.returns-in-Grant-clause-done
@@ -30,10 +31,22 @@ returns-in-Result-clause-done g c = framed_as c.answer_result.result _ _
     c.answer_result.ensures.told
 
 pub returns-in-Account-clause-records : goal.returns-in-Account-clause-records
-returns-in-Account-clause-records g c = records_nothing g.Q.RecordQueue.taken g.Q.RecordQueue.has_failed c.args.recorder.now c.args.desk.now c.args.desk.now refl
+returns-in-Account-clause-records g c =
+    records_unkeyed g.Q.RecordQueue.taken g.Q.RecordQueue.has_failed c.args.recorder.now c.args.recorder.now c.args.desk.now c.args.desk.now _ (keyed_none _ c.args.desk.now c.args.desk.now refl)
+    (records_nothing g.Q.RecordQueue.taken g.Q.RecordQueue.has_failed c.args.recorder.now c.args.desk.now c.args.desk.now refl)
 
 pub returns-in-Status-clause-records : goal.returns-in-Status-clause-records
-returns-in-Status-clause-records g c = records_nothing g.Q.RecordQueue.taken g.Q.RecordQueue.has_failed c.args.recorder.now c.args.desk.now c.args.desk.now refl
+returns-in-Status-clause-records g c =
+    records_unkeyed g.Q.RecordQueue.taken g.Q.RecordQueue.has_failed c.args.recorder.now c.args.recorder.now c.args.desk.now c.args.desk.now _ (keyed_none _ c.args.desk.now c.args.desk.now refl)
+    (records_nothing g.Q.RecordQueue.taken g.Q.RecordQueue.has_failed c.args.recorder.now c.args.desk.now c.args.desk.now refl)
 
 pub returns-in-Result-clause-records : goal.returns-in-Result-clause-records
-returns-in-Result-clause-records g c = records_nothing g.Q.RecordQueue.taken g.Q.RecordQueue.has_failed c.args.recorder.now c.args.desk.now c.answer_result.new.desk c.answer_result.ensures.same
+returns-in-Result-clause-records g c =
+    let same = c.answer_result.ensures.same in
+    records_unkeyed g.Q.RecordQueue.taken g.Q.RecordQueue.has_failed c.args.recorder.now c.args.recorder.now c.args.desk.now c.answer_result.new.desk _ (keyed_none _ c.args.desk.now c.answer_result.new.desk (ap (λ (l : Ledger). length l.jobs) same))
+    (records_nothing g.Q.RecordQueue.taken g.Q.RecordQueue.has_failed c.args.recorder.now c.args.desk.now c.answer_result.new.desk same)
+
+pub returns-in-Grant-clause-records : goal.returns-in-Grant-clause-records
+returns-in-Grant-clause-records g c =
+    let r = c.answer_grant_recorded-reply in
+    records_unkeyed g.Q.RecordQueue.taken g.Q.RecordQueue.has_failed c.args.recorder.now r.new.recorder c.args.desk.now r.new.desk _ (keyed_none _ c.args.desk.now r.new.desk r.ensures.count) r.ensures.records

@@ -1,4 +1,4 @@
-use Rattle.std.proofs.Common.{inl, inr, refl, rules}
+use Rattle.std.proofs.Common.{[], inl, inr, refl, rules}
 use Rattle.std.proofs.lemmas.Result.{IfOk-weaker}
 use Rattle.desk_recorder.proofs.Composed.{records_nothing}
 use Rattle.desk_recorder.proofs.recorded_answers.keep_recorded.Goals as goal
@@ -22,5 +22,5 @@ returns-clause-kept g c = inl c.keep_within-ahead.ensures.kept
 
 pub returns-clause-records : goal.returns-clause-records
 returns-clause-records g c =
-    c.note.ensures c.args.desk.now c.keep_within-ahead.new.self
+    c.note.ensures c.args.desk.now c.keep_within-ahead.new.self []
     (IfOk-weaker c.forgetting_record.result _ _ (λ bytes is. is c.args.desk.now c.keep_within-ahead.new.self c.keep_within-ahead.ensures.forgets.forgets) c.forgetting_record.ensures)

@@ -1,6 +1,6 @@
 use Rattle.std.proofs.Common.{refl}
 use Rattle.streams.proofs.EachForm.{to_none}
-use Rattle.desk_recorder.proofs.Composed.{records_nothing}
+use Rattle.desk_recorder.proofs.Composed.{keyed_none, records_nothing, records_unkeyed}
 use Rattle.desk_recorder.proofs.recorded_answers.reply_recorded.Goals as goal
 
 pub returns-in-AsItCame-Err-clause-done : goal.returns-in-AsItCame-Err-clause-done
@@ -11,4 +11,6 @@ returns-in-AsItCame-Err-clause-done g c = record {
 }
 
 pub returns-in-AsItCame-Err-clause-records : goal.returns-in-AsItCame-Err-clause-records
-returns-in-AsItCame-Err-clause-records g c = records_nothing g.Q.RecordQueue.taken g.Q.RecordQueue.has_failed c.args.recorder.now c.args.desk.now c.args.desk.now refl
+returns-in-AsItCame-Err-clause-records g c =
+    records_unkeyed g.Q.RecordQueue.taken g.Q.RecordQueue.has_failed c.args.recorder.now c.args.recorder.now c.args.desk.now c.args.desk.now _ (keyed_none _ c.args.desk.now c.args.desk.now refl)
+    (records_nothing g.Q.RecordQueue.taken g.Q.RecordQueue.has_failed c.args.recorder.now c.args.desk.now c.args.desk.now refl)

@@ -1,9 +1,9 @@
-use Rattle.std.proofs.Common.{Ok, sym, subst, rules}
+use Rattle.std.proofs.Common.{Ok, ◌∙◌, [], append-nil, sym, subst, rules}
 use Rattle.sessions.specs.Grammar.{Asked}
 use Rattle.streams.specs.Refusing.{TellsRefusal}
 use Rattle.streams.proofs.Answered.{framed_as, taken_if, submits_by}
 use Rattle.streams.proofs.EachForm.{to_admitted}
-use Rattle.desk_recorder.proofs.Composed.{records_then}
+use Rattle.desk_recorder.proofs.Composed.{keyed_behind, records_both, records_keyed}
 use Rattle.desk_recorder.proofs.recorded_submit.answer_admitted_recorded.Goals as goal
 
 pub start_recorded-requires-clause-last : goal.start_recorded-requires-clause-last
@@ -19,8 +19,8 @@ returns-clause-done g c =
     framed_as c.start_recorded.result.1 _ _
     (λ told h. to_admitted g.N.Runner.starts g.N.Runner.looks _ _ _ _ told _ s.tenant s.programs.items s.credit s.buffer.value.items _ c.into_parts-tenant.ensures.asked (search rules)
     (submits_by g.N.Runner.starts t.result _ t.new.desk _ _ s.programs.items s.credit s.buffer.value.items t.ensures.taken t.ensures.number
-    (t.ensures.admitted s.programs.items s.buffer.value.items admission)
-    (t.ensures.refused s.programs.items s.buffer.value.items admission) t.ensures.unchanged told _ _ h))
+    (t.ensures.admitted _ s.programs.items s.buffer.value.items admission)
+    (t.ensures.refused _ s.programs.items s.buffer.value.items admission) t.ensures.unchanged told _ _ h))
     c.start_recorded.ensures.done
 
 pub returns-clause-refusal : goal.returns-clause-refusal
@@ -33,7 +33,9 @@ returns-clause-records g c =
     let s = c.into_parts-tenant.result in
     let a = c.record_ahead-admission in
     let admission = a.ensures.admission s.buffer.value.items c.into_parts-tenant.ensures.admission c.into_parts-tenant.ensures.copy in
-    records_then g.Q.RecordQueue.taken g.Q.RecordQueue.has_failed c.args.recorder.now t.new.recorder c.start_recorded.new.recorder c.args.desk.now t.new.desk c.start_recorded.new.desk
-    (records_then g.Q.RecordQueue.taken g.Q.RecordQueue.has_failed c.args.recorder.now a.new.recorder t.new.recorder c.args.desk.now c.args.desk.now t.new.desk
-    (a.ensures.records c.args.desk.now) (t.ensures.records s.programs.items s.buffer.value.items admission))
-    c.start_recorded.ensures.records
+    let r = c.start_recorded in
+    records_keyed g.Q.RecordQueue.taken g.Q.RecordQueue.has_failed c.args.recorder.now r.new.recorder c.args.desk.now r.new.desk _ _ (keyed_behind _ c.args.desk.now t.new.desk r.new.desk r.ensures.count ∙ sym (append-nil _))
+    (records_both g.Q.RecordQueue.taken g.Q.RecordQueue.has_failed c.args.recorder.now t.new.recorder r.new.recorder c.args.desk.now t.new.desk r.new.desk _ []
+    (records_both g.Q.RecordQueue.taken g.Q.RecordQueue.has_failed c.args.recorder.now a.new.recorder t.new.recorder c.args.desk.now c.args.desk.now t.new.desk [] _
+    (a.ensures.records c.args.desk.now) (t.ensures.records _ s.programs.items s.buffer.value.items admission))
+    r.ensures.records)

@@ -1,10 +1,11 @@
-use Rattle.std.proofs.Common.{Ok, refl, subst, inr, rules}
+use Rattle.std.proofs.Common.{Ok, ap, length, refl, subst, inr, rules}
+use Rattle.accounts.specs.Ledgers.{Ledger}
 use Rattle.sessions.specs.Grammar.{Asked}
 use Rattle.streams.specs.Answering.{Replies}
 use Rattle.streams.specs.Refusing.{TellsRefusal}
 use Rattle.streams.proofs.Answered.{framed_as}
 use Rattle.streams.proofs.EachForm.{to_admitted}
-use Rattle.desk_recorder.proofs.Composed.{records_nothing}
+use Rattle.desk_recorder.proofs.Composed.{keyed_none, records_nothing, records_unkeyed}
 use Rattle.desk_recorder.proofs.recorded_submit.answer_submit_recorded.Goals as goal
 
 pub returns-in-Ok-clause-done : goal.returns-in-Ok-clause-done
@@ -31,4 +32,6 @@ returns-in-Err-clause-done g c = framed_as c.answer_taken.result.1 _ _
 
 pub returns-in-Err-clause-records : goal.returns-in-Err-clause-records
 returns-in-Err-clause-records g c =
-    records_nothing g.Q.RecordQueue.taken g.Q.RecordQueue.has_failed c.args.recorder.now c.args.desk.now c.answer_taken.new.desk c.answer_taken.ensures.done.was.0
+    let same = c.answer_taken.ensures.done.was.0 in
+    records_unkeyed g.Q.RecordQueue.taken g.Q.RecordQueue.has_failed c.args.recorder.now c.args.recorder.now c.args.desk.now c.answer_taken.new.desk _ (keyed_none _ c.args.desk.now c.answer_taken.new.desk (ap (λ (l : Ledger). length l.jobs) same))
+    (records_nothing g.Q.RecordQueue.taken g.Q.RecordQueue.has_failed c.args.recorder.now c.args.desk.now c.answer_taken.new.desk same)

@@ -1,4 +1,7 @@
+use Rattle.std.proofs.Common.{ap, length}
+use Rattle.accounts.specs.Ledgers.{Ledger}
 use Rattle.desk_recorder.proofs.Composed.{records_nothing}
+use Rattle.desk_recorder.proofs.Starts.{start_count}
 use Rattle.desk_recorder.proofs.recorded_submit.start_recorded.Goals as goal
 
 pub answer_taken-refusal-requires-clause-last : goal.answer_taken-refusal-requires-clause-last
@@ -9,6 +12,12 @@ returns-in-Ok-clause-done g c = rw c.in-Ok.is c.answer_taken-refusal.ensures.don
 
 pub returns-in-Ok-clause-records : goal.returns-in-Ok-clause-records
 returns-in-Ok-clause-records g c = c.note_start.ensures c.args.desk.now c.answer_taken-refusal.new.desk c.in-Ok.job.0 c.answer_taken-refusal.ensures.start
+
+pub returns-in-Ok-clause-count : goal.returns-in-Ok-clause-count
+returns-in-Ok-clause-count g c = start_count c.args.desk.now c.answer_taken-refusal.new.desk c.in-Ok.job.0 _ c.answer_taken-refusal.ensures.start
+
+pub returns-in-Err-clause-count : goal.returns-in-Err-clause-count
+returns-in-Err-clause-count g c = ap (λ (l : Ledger). length l.jobs) c.answer_taken.ensures.done.was.0
 
 pub returns-in-Err-clause-done : goal.returns-in-Err-clause-done
 returns-in-Err-clause-done g c = rw c.in-Err.is c.answer_taken.ensures.done

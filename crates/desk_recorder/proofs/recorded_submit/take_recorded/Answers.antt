@@ -1,19 +1,27 @@
-use Rattle.desk_recorder.proofs.Composed.{records_nothing}
-use Rattle.desk_recorder.proofs.Starts.{none_taken}
+use Rattle.std.proofs.Common.{ap, length}
+use Rattle.accounts.specs.Ledgers.{Ledger}
+use Rattle.desk_recorder.proofs.Composed.{keyed_none, keyed_one, records_keyed, records_nothing, records_unkeyed}
+use Rattle.desk_recorder.proofs.Starts.{longer, none_taken}
 use Rattle.desk_recorder.proofs.recorded_submit.take_recorded.Goals as goal
 
 pub returns-in-Err-clause-refused : goal.returns-in-Err-clause-refused
-returns-in-Err-clause-refused g c programs buffer made = c.take.ensures.refused programs buffer (rw c.in-Err.is at made)
+returns-in-Err-clause-refused g c key programs buffer made = c.take.ensures.refused programs buffer (rw c.in-Err.is at made)
 
 pub returns-in-Err-clause-records : goal.returns-in-Err-clause-records
-returns-in-Err-clause-records g c programs buffer made =
-    records_nothing g.Q.RecordQueue.taken g.Q.RecordQueue.has_failed c.args.recorder.now c.args.desk.now c.take.new.self (none_taken c.take.result c.in-Err.fault c.args.desk.now c.take.new.self c.take.ensures.job c.take.ensures.unchanged)
+returns-in-Err-clause-records g c key programs buffer made =
+    let same = none_taken c.take.result c.in-Err.fault c.args.desk.now c.take.new.self c.take.ensures.job c.take.ensures.unchanged in
+    records_unkeyed g.Q.RecordQueue.taken g.Q.RecordQueue.has_failed c.args.recorder.now c.args.recorder.now c.args.desk.now c.take.new.self _ (keyed_none key c.args.desk.now c.take.new.self (ap (λ (l : Ledger). length l.jobs) same))
+    (records_nothing g.Q.RecordQueue.taken g.Q.RecordQueue.has_failed c.args.recorder.now c.args.desk.now c.take.new.self same)
 
 pub returns-in-Ok-take-clause-records : goal.returns-in-Ok-take-clause-records
-returns-in-Ok-take-clause-records g c programs buffer made =
+returns-in-Ok-take-clause-records g c key programs buffer made =
     let with_record = rw c.in-Ok.is at made in
-    c.note.ensures c.args.desk.now c.take-2.new.self (with_record.1 c.args.desk.now c.take-2.new.self c.in-Ok.made.0 c.in-Ok-take.ensures.taken with_record.0)
+    let takes = c.in-Ok-take.ensures.taken in
+    records_keyed g.Q.RecordQueue.taken g.Q.RecordQueue.has_failed c.args.recorder.now c.note.new.self c.args.desk.now c.take-2.new.self _ _ (keyed_one key c.args.desk.now c.take-2.new.self (longer c.args.desk.now c.take-2.new.self _ _ takes))
+    (c.note.ensures c.args.desk.now c.take-2.new.self _ (with_record.1 c.args.desk.now c.take-2.new.self c.in-Ok.made.0 takes with_record.0))
 
 pub returns-in-Err-take-clause-records : goal.returns-in-Err-take-clause-records
-returns-in-Err-take-clause-records g c programs buffer made =
-    records_nothing g.Q.RecordQueue.taken g.Q.RecordQueue.has_failed c.args.recorder.now c.args.desk.now c.take-2.new.self c.in-Err-take.ensures.unchanged
+returns-in-Err-take-clause-records g c key programs buffer made =
+    let same = c.in-Err-take.ensures.unchanged in
+    records_unkeyed g.Q.RecordQueue.taken g.Q.RecordQueue.has_failed c.args.recorder.now c.args.recorder.now c.args.desk.now c.take-2.new.self _ (keyed_none key c.args.desk.now c.take-2.new.self (ap (λ (l : Ledger). length l.jobs) same))
+    (records_nothing g.Q.RecordQueue.taken g.Q.RecordQueue.has_failed c.args.recorder.now c.args.desk.now c.take-2.new.self same)

@@ -1,5 +1,5 @@
 use Rattle.std.proofs.Common.{◌≡◌, length}
-use Rattle.tenant_desks.specs.JobKeys.{job_among}
+use Rattle.sessions.specs.JobKeys.{job_among}
 use Rattle.tenant_desks.proofs.key_table.job_among.Given as goal
 
 abbrev pub invariant-keys : goal.invariant-keys

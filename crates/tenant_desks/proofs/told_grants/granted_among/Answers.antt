@@ -1,8 +1,5 @@
-use Rattle.std.proofs.Common.{◌≡◌, ◌<◌, ◌+◌, ℕ, List, Some, None, nat_lt, if◌then◌else◌, Option, String, length, map, slice_get, string_bytes, sym, ap, subst, ◌∙◌, arith}
+use Rattle.std.proofs.Common.{◌≡◌, ◌<◌, ℕ, Some, None, nat_lt, if◌then◌else◌, length, map, slice_get, string_bytes, sym, ap, ◌∙◌, arith}
 use Rattle.std.proofs.lemmas.Option.{IfSome_then, get_or_from_slice_get}
-use Rattle.std.specs.declared.alloc.Global.{Global}
-use Rattle.accounts.specs.declared.desk.Desk.{Desk}
-use Rattle.accounts.specs.Ledgers.{Ledger}
 use Rattle.accounts.proofs.Listed.{get_within}
 use Rattle.server_log.specs.declared.log_line.LogEvent.TheVariants.{Granted}
 use Rattle.tenant_desks.specs.Routing.{tenant_place}

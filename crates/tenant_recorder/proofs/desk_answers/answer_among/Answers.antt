@@ -1,11 +1,14 @@
-use Rattle.std.proofs.Common.{◌<◌, ◌∙◌, length, map, string_bytes, refl, sym, rules, arith}
+use Rattle.std.proofs.Common.{◌≡◌, ◌<◌, ◌∙◌, ap, option_map, length, map, string_bytes, refl, sym, rules, arith}
 use Rattle.std.proofs.lemmas.Option.{slice_get_read}
 use Rattle.streams.specs.Prepared.{asked_of}
 use Rattle.tenant_desks.specs.Routing.{desk_for}
 use Rattle.tenant_recorder.proofs.AnsweredAt.{nowhere_err, nowhere_ok, there_err, there_ok}
 use Rattle.tenant_recorder.proofs.EachPlace.{are_recorded, recorded_at, recorded_then}
+use Rattle.tenant_recorder.specs.Recorders.{key_at}
+use Rattle.tenant_recorder.proofs.KeyedAt.{handed_here, handed_none, keyed_none_answers, keyed_one_answers}
 use Rattle.tenant_recorder.proofs.Forgotten.{forgotten_at, forgotten_noted}
 use Rattle.tenant_recorder.proofs.desk_answers.answer_among.Goals as goal
+use Rattle.tenant_recorder.proofs.desk_answers.answer_among.Goals.{then-place-place_behind, else-place-place_behind}
 
 pub returns-in-Err-clause-ok : goal.returns-in-Err-clause-ok
 returns-in-Err-clause-ok g c =
@@ -75,4 +78,23 @@ returns-clause-records g c =
     recorded_then g.Q.RecordQueue.taken g.Q.RecordQueue.has_failed c.args.recorders.now.items c.pass_ends.new.recorders.items _ c.args.desks.now.items c.pass_ends.new.desks.items _
     (are_recorded g.Q.RecordQueue.taken g.Q.RecordQueue.has_failed c.args.recorders.now.items c.pass_ends.new.recorders.items c.args.desks.now.items c.pass_ends.new.desks.items c.pass_ends.ensures.records)
     (recorded_at g.Q.RecordQueue.taken g.Q.RecordQueue.has_failed c.pass_ends.new.recorders.items c.pass_ends.new.desks.items c.in-Ok.place
-    c.index_mut-2.result.now c.answer_at-refusal.new.recorder c.index_mut.result.now c.answer_at-refusal.new.desk beside here c.answer_at-refusal.ensures.records)
+    c.index_mut-2.result.now c.answer_at-refusal.new.recorder c.index_mut.result.now c.answer_at-refusal.new.desk beside here (_, c.answer_at-refusal.ensures.records))
+
+pub returns-in-Err-clause-kept : goal.returns-in-Err-clause-kept
+returns-in-Err-clause-kept g c =
+    keyed_none_answers g.Q.RecordQueue.taken g.Q.RecordQueue.has_failed c.args.passage.door _ g.N.Runner.takes c.args.recorders.now.items c.pass_ends.new.recorders.items c.args.desks.now.items c.pass_ends.new.desks.items c.args.runner.now.runner c.pass_ends.new.runner
+    c.pass_ends.ensures.records c.pass_ends.ensures.passed
+
+pub returns-clause-kept : goal.returns-clause-kept
+returns-clause-kept g c =
+    let within : c.in-Ok.place < length c.pass_ends.new.desks.items = search (rules, arith) in
+    let paired = c.pass_ends.ensures.records.recorders ∙ c.requires.paired ∙ sym c.pass_ends.ensures.records.desks in
+    let within_too : c.in-Ok.place < length c.pass_ends.new.recorders.items = omega (arith, within, paired) in
+    let here = slice_get_read c.pass_ends.new.desks.items (length c.pass_ends.new.desks.items) c.in-Ok.place c.index_mut.result.now refl within c.index_mut.ensures.value in
+    let beside = slice_get_read c.pass_ends.new.recorders.items (length c.pass_ends.new.recorders.items) c.in-Ok.place c.index_mut-2.result.now refl within_too c.index_mut-2.ensures.value in
+    let handed : key_at c.args.passage.door (option_map (λ k. k.now) c.args.key) c.in-Ok.place ≡ option_map (λ k. k.now) c.if-place-place_behind.own_key = elim c.if-place-place_behind.branch [
+      | then-place-place_behind w ↦ handed_here c.args.passage.door (option_map (λ k. k.now) c.args.key) _ c.in-Ok.place (w.if-place-place_behind.true ∙ c.place_behind.ensures.place) (ap (option_map (λ k. k.now)) w.own_key-is)
+      | else-place-place_behind w ↦ handed_none c.args.passage.door (option_map (λ k. k.now) c.args.key) _ c.in-Ok.place (λ same. w.if-place-place_behind.false (same ∙ sym c.place_behind.ensures.place)) (ap (option_map (λ k. k.now)) w.own_key-is)
+    ] in
+    keyed_one_answers g.Q.RecordQueue.taken g.Q.RecordQueue.has_failed c.args.passage.door (option_map (λ k. k.now) c.args.key) g.N.Runner.takes c.args.recorders.now.items c.pass_ends.new.recorders.items c.args.desks.now.items c.pass_ends.new.desks.items c.args.runner.now.runner c.pass_ends.new.runner
+    c.pass_ends.ensures.records c.pass_ends.ensures.passed (option_map (λ k. k.now) c.if-place-place_behind.own_key) c.in-Ok.place c.index_mut-2.result.now c.answer_at-refusal.new.recorder c.index_mut.result.now c.answer_at-refusal.new.desk beside here handed c.answer_at-refusal.ensures.records

@@ -2,8 +2,7 @@ use Rattle.std.proofs.Common.{◌≡◌, ◌++◌, length, map, Vec}
 use Rattle.std.specs.declared.alloc.Global.{Global}
 use Rattle.std.specs.Vec.Iter.{into_iter_items, into_iter_len}
 use Rattle.desk_journal.specs.declared.journaled_desk.OpenJob.{OpenJob}
-use Rattle.desk_recorder.specs.Recording.{IsRecorded}
-use Rattle.tenant_recorder.specs.Recorders.{EachRecorder}
+use Rattle.tenant_recorder.specs.Recorders.{EachRecorder, IsRecordedPlainly}
 use Rattle.tenant_recorder.specs.TenantRestarts.{RestartsEach}
 use Rattle.tenant_recorder.proofs.desk_restarts.restart_each.Given as goal
 
@@ -14,5 +13,5 @@ invariant-desks g l = record {
   place : l.place ≡ length l.yielded;
   ready : g.N.Runner.ready l.runner.runner;
   starts : RestartsEach g.N.Runner.starts l.fn.desks.items l.fn.runner.runner (map (λ (v : Vec OpenJob Global). v.items) l.yielded) l.desks.items l.runner.runner;
-  records : EachRecorder (IsRecorded g.Q.RecordQueue.taken g.Q.RecordQueue.has_failed) l.fn.recorders.items l.recorders.items l.fn.desks.items l.desks.items;
+  records : EachRecorder (IsRecordedPlainly g.Q.RecordQueue.taken g.Q.RecordQueue.has_failed) l.fn.recorders.items l.recorders.items l.fn.desks.items l.desks.items;
 }

@@ -1,7 +1,6 @@
-use Rattle.std.proofs.Common.{◌≡◌, ◌≤◌, ◌+◌, ◌++◌, ◌∷◌, [], ℕ, List, Option, length, map, string_bytes, take, ap, sym, subst, ◌∙◌, arith, rules}
+use Rattle.std.proofs.Common.{◌≡◌, ◌+◌, ◌++◌, ◌∷◌, [], ℕ, List, Option, length, map, string_bytes, take, ap, sym, subst, ◌∙◌, arith, rules}
 use Rattle.std.proofs.lemmas.List.{take_more, map-append, length-map}
 use Rattle.std.proofs.Common.{Global, String, length-take-le}
-use Rattle.accounts.specs.Ledgers.{Ledger}
 use Rattle.tenant_desks.specs.Tenancies.{AreFirstDesks, fresh_desk}
 use Rattle.tenant_desks.proofs.FirstDesks.{said_of, one_first_more, names_more, as_many_first}
 use Rattle.tenant_desks.proofs.desks.TenantDesks.first.Goals as goal
