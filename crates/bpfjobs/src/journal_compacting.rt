@@ -2,16 +2,16 @@
 
 ghost use Rattle.std.specs.Prelude.{◌≡◌, ℕ, List, [], IfOk};
 ghost use Rattle.compaction.specs.Snapshots.{LeadsToHistory};
-ghost use Rattle.desk_journal.specs.AlikeDesks.{AreDesksAlike};
-ghost use Rattle.desk_journal.specs.DeskSteps.{IsNewDesk, MakesBytes};
+ghost use Rattle.keyed_desk.specs.KeyedSnapshots.{AreKeyedAlike};
+ghost use Rattle.keyed_desk.specs.KeyedSteps.{IsNewKeyed, MakesKeyed};
 ghost use Rattle.journal.specs.Records.{AllFitRecords, journal_of};
 ghost use Rattle.journal_file.specs.FileLogs.{file_state};
 ghost use Rattle.journal_file.specs.Shortening.{GoesOnBehind};
 ghost use Rattle.recovery.specs.Histories.{IsAfter};
 
 use crate::journal_faults::FileFault;
-use desk_journal::JournaledDesk;
 use journal_file::{FileLog, KeptBy, Shortened, shorten};
+use keyed_desk::KeyedDesk;
 use std::alloc::Global;
 use std::fs::{File, Files};
 
@@ -39,14 +39,14 @@ pub fn compacted<R: Files<File = File> + Eprint>(
     alloc: Global,
     path: &str,
     log: FileLog,
-    desk: &JournaledDesk,
+    desk: &KeyedDesk,
     journal: &[u8],
 ) -> Result<FileLog, FileFault>
     ensures { (history : List (List ℕ)) → AllFitRecords history
-        → IsAfter IsNewDesk MakesBytes history desk.now → journal.now ≡ journal_of history
+        → IsAfter IsNewKeyed MakesKeyed history desk.now → journal.now ≡ journal_of history
         → file_state log ≡ record { durable = journal.now; pending = [] }
         → IfOk result (GoesOnBehind (λ bytes.
-        LeadsToHistory IsNewDesk MakesBytes AreDesksAlike bytes history desk.now)) }
+        LeadsToHistory IsNewKeyed MakesKeyed AreKeyedAlike bytes history desk.now)) }
 {
     match shorten(rt, alloc, path, log, desk, journal) {
         Shortened::NotNeeded(log) => Ok(log),

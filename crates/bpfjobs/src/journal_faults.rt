@@ -1,8 +1,8 @@
 //! The reasons why a journal's file isn't gone on with, and the lines that tell them.
 
 use bpfjobs_cli::FAILED;
-use desk_journal::{DeskChange, JournaledDesk};
 use journal::{HEADER_LEN, first_record};
+use keyed_desk::{KeyedChange, KeyedDesk};
 use recovery::{OpenFault, RecoverFault, StateChange, StateMachine};
 use std::alloc::Global;
 use std::io;
@@ -64,8 +64,8 @@ pub fn refused<R: Eprint>(rt: &R, path: &str, fault: FileFault) -> u8 {
 }
 
 // Whether the change with this payload is applied to the desk.
-fn is_applied(alloc: Global, desk: &mut JournaledDesk, payload: &[u8]) -> bool {
-    match DeskChange::decode(alloc, payload) {
+fn is_applied(alloc: Global, desk: &mut KeyedDesk, payload: &[u8]) -> bool {
+    match KeyedChange::decode(alloc, payload) {
         Ok(change) => desk.apply(alloc, &change).is_ok(),
         Err(_) => false,
     }
@@ -73,7 +73,7 @@ fn is_applied(alloc: Global, desk: &mut JournaledDesk, payload: &[u8]) -> bool {
 
 // The place of the first record that isn't replayed.
 fn place_of_refusal(alloc: Global, bytes: &[u8]) -> usize {
-    let mut desk = JournaledDesk::start(alloc);
+    let mut desk = KeyedDesk::start(alloc);
     let mut rest = bytes;
     while let Some(payload) = first_record(rest) {
         if !is_applied(alloc, &mut desk, payload) {

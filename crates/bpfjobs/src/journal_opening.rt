@@ -7,15 +7,15 @@ ghost use Rattle.journal_file.specs.FileLogs.{file_state};
 ghost use Rattle.journal_file.specs.Shortening.{GoesOnBehind};
 ghost use Rattle.shared_journal.specs.Places.{AreAtTheirPlaces};
 ghost use Rattle.recovery.specs.Histories.{IsAfter};
-ghost use Rattle.desk_journal.specs.AlikeDesks.{AreDesksAlike};
-ghost use Rattle.desk_journal.specs.DeskSteps.{IsNewDesk, MakesBytes};
+ghost use Rattle.keyed_desk.specs.KeyedSnapshots.{AreKeyedAlike};
+ghost use Rattle.keyed_desk.specs.KeyedSteps.{IsNewKeyed, MakesKeyed};
 ghost use Rattle.compaction.specs.Snapshots.{LeadsToHistory};
 
 use crate::journal_compacting::compacted;
 use crate::journal_faults::{FileFault, SEARCH_BUDGET, fault_of, refused};
 use bpfjobs_cli::{Serve, journal_paths};
-use desk_journal::{JournaledDesk, open_desk_journal};
 use journal_file::{FileLog, folder_of};
+use keyed_desk::{KeyedDesk, open_keyed_journal};
 use recovery::Recovered;
 use shared_journal::SharedJournal;
 use std::alloc::Global;
@@ -32,7 +32,7 @@ const OF_OWNER: u32 = 0o600;
 #[derive(Drop)]
 struct OpenedJournal {
     journal: SharedJournal,
-    desk: JournaledDesk,
+    desk: KeyedDesk,
 }
 
 /// The journals of a server that are open, one for each desk in order, with the paths of their files,
@@ -41,7 +41,7 @@ struct OpenedJournal {
 pub struct OpenedJournals {
     pub paths: Vec<String>,
     pub journals: Arc<Vec<SharedJournal>, Global>,
-    pub desks: Vec<JournaledDesk>,
+    pub desks: Vec<KeyedDesk>,
     ghost paired: { length desks.items ≡ length (arc_value journals).items },
     ghost placed: { AreAtTheirPlaces (arc_value journals).items },
 }
@@ -94,14 +94,14 @@ fn replayed<R: Files<File = File> + Eprint>(
     path: &str,
     file: File,
     bytes: &[u8],
-) -> Result<(FileLog, JournaledDesk), FileFault>
+) -> Result<(FileLog, KeyedDesk), FileFault>
     ensures leads { IfOk result (λ opened. (history : List (List ℕ)) × (tail : List ℕ)
-        × DecodesTo bytes.now history tail × IsAfter IsNewDesk MakesBytes history opened.1
-        × GoesOnBehind (λ durable. LeadsToHistory IsNewDesk MakesBytes AreDesksAlike durable
+        × DecodesTo bytes.now history tail × IsAfter IsNewKeyed MakesKeyed history opened.1
+        × GoesOnBehind (λ durable. LeadsToHistory IsNewKeyed MakesKeyed AreKeyedAlike durable
         history opened.1) opened.0) }
     ensures nothing_waits { IfOk result (λ opened. (file_state opened.0).pending ≡ []) }
 {
-    let Recovered { machine, len } = match open_desk_journal(alloc, bytes, SEARCH_BUDGET) {
+    let Recovered { machine, len } = match open_keyed_journal(alloc, bytes, SEARCH_BUDGET) {
         Ok(recovered) => recovered,
         Err(fault) => return Err(fault_of(alloc, bytes, fault)),
     };
@@ -142,7 +142,7 @@ fn examine<R: Files<File = File>>(rt: &R, alloc: Global, path: &str) -> Result<(
     let mut file = locked_file(rt, path)?;
     let mut bytes = Vec::new(alloc);
     file.read_to_end(&mut bytes)?;
-    match open_desk_journal(alloc, &bytes, SEARCH_BUDGET) {
+    match open_keyed_journal(alloc, &bytes, SEARCH_BUDGET) {
         Ok(_) => Ok(()),
         Err(fault) => Err(fault_of(alloc, &bytes, fault)),
     }
@@ -167,7 +167,7 @@ fn open_each<R: Files<File = File> + Eprint>(
     rt: &R,
     alloc: Global,
     paths: &[String],
-) -> Result<(Vec<SharedJournal>, Vec<JournaledDesk>), u8>
+) -> Result<(Vec<SharedJournal>, Vec<KeyedDesk>), u8>
     ensures count { IfOk result (λ opened. (length opened.0.items ≡ length paths.now)
         × (length opened.1.items ≡ length paths.now)) }
     ensures placed { IfOk result (λ opened. AreAtTheirPlaces opened.0.items) }

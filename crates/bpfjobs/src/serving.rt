@@ -12,8 +12,8 @@ use accounts::KeepLimits;
 use bpfjobs_cli::{
     Endpoint, FAILED, JournalSync, Serve, ServeOptions, TenantSettings, TenantSocket,
 };
-use desk_journal::JournaledDesk;
 use job_server::{Bounds, Plan, StopFlag, TenantDoor, serve_port, serve_sockets, status_of};
+use keyed_desk::KeyedDesk;
 use refusal::NoMemory;
 use server_log::ServerLog;
 use shared_journal::{GroupJournal, ReplySync, SharedJournal};
@@ -105,7 +105,7 @@ fn serve_from<R>(
     stop: Option<&StopFlag>,
     log: &ServerLog,
     journals: &[SharedJournal],
-    states: Vec<JournaledDesk>,
+    states: Vec<KeyedDesk>,
 ) -> u8
 where
     R: Net<Stream = TcpStream, Listener = TcpListener> + Files + Threads + Wait + Clock + Sync,

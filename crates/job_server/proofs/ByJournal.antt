@@ -2,14 +2,14 @@
 use Rattle.std.proofs.Common.{◌≡◌, ◌⊎◌, ◌+◌, ℕ, Bool, List, [], ◌∷◌, length, All, Result, Err, inl, inr, refl, ap, arith}
 use Rattle.streams.specs.declared.fault.StreamFault.TheVariants.{NoMemory}
 use Rattle.shared_desk.specs.declared.passage.Passage.{Passage}
-use Rattle.desk_journal.specs.DeskSteps.{DeskState}
+use Rattle.keyed_desk.specs.KeyedSteps.{KeyedState}
 use Rattle.job_server.specs.declared.bounds.Bounds.{Bounds}
 use Rattle.job_server.specs.declared.fault.ServeFault.{ServeFault}
 use Rattle.job_server.specs.declared.fault.ServeFault.TheVariants as fault
 use Rattle.job_server.specs.declared.tenant_door.TenantDoor.{TenantDoor}
 use Rattle.job_server.specs.Listening.{AreOf, CameBy}
 use Rattle.job_server.specs.TenantServing.{GrantsByNoTenant, IsServingAt, IsServingBy}
-use Rattle.job_server.specs.TenantRecorded.{IsServingTenantsRecorded}
+use Rattle.job_server.specs.TenantRecorded.{IsServingTenantsRecorded, desks_of}
 use Rattle.job_server.specs.Recorded.{IsServingRecorded, IsServingWith, IsServingWithAt, recovered_state}
 use Rattle.job_server.proofs.ByDoors.{served_by}
 
@@ -19,7 +19,7 @@ some_journals journals doors each none =
     let is : length journals ≡ 0 = ap length none in
     omega (arith, each, is)
 
-module _ {L Q J : Type 0} (opens fails : L → L → Type 0) (passage_of : L → Passage) (listener : L) (taken : Q → List ℕ) (failed : Q → Type 0) (journal_of : Q → J) (journals : List J) (states : List DeskState) (doors : List TenantDoor) (bounds : Bounds) (sessions : ℕ) (may_stop : Bool)
+module _ {L Q J : Type 0} (opens fails : L → L → Type 0) (passage_of : L → Passage) (listener : L) (taken : Q → List ℕ) (failed : Q → Type 0) (journal_of : Q → J) (journals : List J) (states : List KeyedState) (doors : List TenantDoor) (bounds : Bounds) (sessions : ℕ) (may_stop : Bool)
     (outcome : Result (Unit {0}) ServeFault) where
   -- with these journals and doors
   abbrev ServesAt : List J → List TenantDoor → Type 0
@@ -28,7 +28,7 @@ module _ {L Q J : Type 0} (opens fails : L → L → Type 0) (passage_of : L →
   abbrev Serves : List J → List TenantDoor → Type 0
   Serves js ds = IsServingWith taken failed journal_of js states ds bounds sessions may_stop outcome
 
-  pub with_journal : (journals ≡ [] → ⊥) → doors ≡ [] → (s : IsServingRecorded taken failed (recovered_state states) bounds sessions may_stop outcome) → AreOf opens fails listener s.serving.opened
+  pub with_journal : (journals ≡ [] → ⊥) → doors ≡ [] → (s : IsServingRecorded taken failed (recovered_state (desks_of states)) bounds sessions may_stop outcome) → AreOf opens fails listener s.serving.opened
       → All (λ c. CameBy opens passage_of c.passage) s.serving.closed → IsServingWithAt opens fails passage_of listener taken failed journal_of journals states doors bounds sessions may_stop outcome
   with_journal some none s of came = by_lists journals doors some none
     where

@@ -13,7 +13,7 @@ use Rattle.tenant_desks.specs.AskedPlainly as plain
 use Rattle.shared_desk.specs.ServerAsked.{AreAskedOfDesks}
 use Rattle.shared_desk.proofs.AskedOfDesks as aside
 use Rattle.tenant_desks.specs.AskedPlainly.{AreAskedPlainly, IsAskedAs}
-use Rattle.tenant_desks.specs.AtDoors.{keys_behind, told_by_door, without_keys}
+use Rattle.tenant_desks.specs.AtDoors.{keeps_no_key, keys_behind, told_by_door, without_keys}
 use Rattle.tenant_desks.proofs.DoorLemmas.{asked_plainly}
 use Rattle.tenant_desks.proofs.NamedHistories.{own_names}
 use Rattle.accounts.specs.Ledgers.{Ledger}
@@ -185,7 +185,7 @@ module _ (doors : List TenantDoor) (bounds : Bounds) (sessions : ℕ) (may_stop 
 
   -- what was asked plainly
   abbrev asked_of_doors : (plain : List HistoryEntry) × AreAskedPlainly hosted_tenant_answers (λ y. y ≡ s.begun) past_counts.0 plain s.end × Replays hosted_tenant_answers (λ y. y ≡ without_keys s.begun) plain (without_keys s.end)
-  asked_of_doors = asked_plainly hosted_tenant_answers (λ y. y ≡ s.begun) (λ y. y ≡ without_keys s.begun) (λ y is. ap without_keys is) past_counts.0 s.end past_counts.2
+  asked_of_doors = asked_plainly hosted_tenant_answers keeps_no_key (λ y. y ≡ s.begun) (λ y. y ≡ without_keys s.begun) (λ y is. ap without_keys is) past_counts.0 s.end past_counts.2
 
   -- what the desks were asked
   abbrev asked_of_desks : (asked : List HistoryEntry) × AreAskedByName (door_names doors) asked_of_doors.0 asked × IsTenantHistory line_starts line_looks line_takes (door_names doors) firsts bounds.keep asked (without_keys s.end)

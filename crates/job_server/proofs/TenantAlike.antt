@@ -27,7 +27,7 @@ use Rattle.job_server.specs.declared.tenant_door.TenantDoor.{TenantDoor}
 use Rattle.job_server.specs.AtOnce.{IsServingFrom, Pool}
 use Rattle.job_pools.specs.LineBounded.{new_by_line}
 use Rattle.job_server.specs.TenantLimits.{door_limits}
-use Rattle.tenant_desks.specs.AtDoors.{BehindDoors}
+use Rattle.tenant_desks.specs.AtDoors.{BehindDoors, keeps_no_key}
 use Rattle.tenant_desks.proofs.DoorLemmas.{doors_alike, doors_as}
 use Rattle.job_server.specs.TenantServing.{BeginsAtDesks, DoorsHosted, TenantHosted, hosted_door_answers, hosted_tenant_answers}
 use Rattle.job_server.proofs.Alike.{replies_alike}
@@ -213,7 +213,7 @@ module _ {R : Type 0} (f : R → Pool) (starts : R → ℕ → AdmittedJob → R
       → door_answers (starts_by_line starts_in) (looks_by_line (looks_within looks)) (takes_by_line (takes_within takes)) s query reply t
       → hosted_door_answers (doors_hosted_as f s) query reply (doors_hosted_as f t)
   hosted_doors_alike =
-      doors_alike (tenant_answers (starts_by_line starts_in) (looks_by_line (looks_within looks)) (takes_by_line (takes_within takes))) hosted_tenant_answers (host_as f) hosted_alike
+      doors_alike (tenant_answers (starts_by_line starts_in) (looks_by_line (looks_within looks)) (takes_by_line (takes_within takes))) hosted_tenant_answers (host_as f) hosted_alike keeps_no_key keeps_no_key (λ s door key t kept. kept)
 
   -- the pool's own state is forgotten, but for the jobs that it was given and the boards that it watches
   pub tenants_serving : (begun end : Tenancy × BehindDoors (KeptRunner (LineLimitedRunner (LimitedRunner R)))) (sessions : ℕ) (may_stop : Bool) (outcome : Result (Unit {0}) ServeFault)

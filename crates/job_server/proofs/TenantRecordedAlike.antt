@@ -4,7 +4,7 @@ use Rattle.credit_book.specs.declared.book.Report.{Report}
 use Rattle.credit_book.specs.declared.board.Progress.{Progress}
 use Rattle.job_core.specs.Admitted.{AdmittedJob}
 use Rattle.accounts.specs.Ledgers.{Ledger}
-use Rattle.desk_journal.specs.DeskSteps.{DeskState}
+use Rattle.keyed_desk.specs.KeyedSteps.{KeyedState}
 use Rattle.desk_journal.specs.declared.journaled_desk.OpenJob.{OpenJob}
 use Rattle.desk_recorder.specs.Restarts.{StartsEach}
 use Rattle.desk_recorder.specs.Restarts as restarts
@@ -19,7 +19,7 @@ use Rattle.tenant_desks.specs.Answering.{for_place}
 use Rattle.tenant_recorder.specs.TenantRestarts.{RestartsEach, none_yet, one_more}
 use Rattle.tenant_desks.specs.AtDoors.{BehindDoors, without_keys}
 use Rattle.tenant_desks.proofs.DoorLemmas.{doors_alike, doors_as}
-use Rattle.tenant_recorder.specs.TenantsRecorded.{RecordedRunner, door_answers_recorded, named_answers_recorded, tenant_answers_recorded, unrecorded}
+use Rattle.tenant_recorder.specs.TenantsRecorded.{RecordedRunner, door_answers_recorded, keeps_recorded_key, named_answers_recorded, tenant_answers_recorded, unrecorded}
 use Rattle.job_pools.specs.declared.limited_runner.LimitedRunner.{LimitedRunner}
 use Rattle.job_pools.specs.LineBounded.{looks_by_line, new_by_line, starts_by_line, takes_by_line}
 use Rattle.job_pools.specs.declared.line_limited_runner.LineLimitedRunner.{LineLimitedRunner}
@@ -31,8 +31,8 @@ use Rattle.job_server.specs.declared.fault.ServeFault.{ServeFault}
 use Rattle.job_server.specs.declared.tenant_door.TenantDoor.{TenantDoor}
 use Rattle.job_server.specs.AtOnce.{IsServingFrom, Pool}
 use Rattle.job_server.specs.TenantLimits.{door_limits}
-use Rattle.job_server.specs.TenantServing.{RemembersNone, door_credits}
-use Rattle.job_server.specs.TenantRecorded.{AreRestarted, IsServingTenantsRecorded, hosted_answers_recorded, open_jobs_of, recovered_tenancy}
+use Rattle.job_server.specs.TenantServing.{door_credits}
+use Rattle.job_server.specs.TenantRecorded.{AreRestarted, IsServingTenantsRecorded, desks_of, hosted_answers_recorded, keys_of, open_jobs_of, recovered_tenancy}
 use Rattle.job_server.proofs.AtOnceAlike.{limited, serving_kept}
 use Rattle.job_server.proofs.RecordedAlike.{limited_is}
 use Rattle.job_server.proofs.TenantAlike.{desks_alike, in_lines, line_starts, pool_looks, pool_starts, pool_takes}
@@ -132,16 +132,16 @@ module _ {R Q J : Type 0} (f : R → Pool) (taken : Q → List ℕ) (failed : Q 
   hosted_doors_recorded_alike =
       doors_alike (tenant_answers_recorded starts_lined (looks_by_line (looks_within looks)) (takes_by_line (takes_within takes)) taken failed)
       (tenant_answers_recorded (starts_by_line (starts_within pooled_count (StartsBy pooled_at pooled_count))) (looks_by_line (looks_within (TellsBy pooled_at pooled_count))) (takes_by_line (takes_within (TakesBy pooled_at pooled_count))) taken failed)
-      (recorded_as pooled) hosted_recorded_alike
+      (recorded_as pooled) hosted_recorded_alike (keeps_recorded_key taken failed) (keeps_recorded_key taken failed) (λ s door key t kept. kept)
 
   -- the pool's own state is forgotten, but for the jobs that it was given and the boards that it watches
-  pub tenants_recorded_serving : (journals : List J) (states : List DeskState) (doors : List TenantDoor) (bounds : Bounds) (l : LimitedRunner R) (pool : R) (begun end : Tenancy × BehindDoors (RecordedRunner (LineLimitedRunner (LimitedRunner R)) Q)) (sessions : ℕ) (may_stop : Bool)
+  pub tenants_recorded_serving : (journals : List J) (states : List KeyedState) (doors : List TenantDoor) (bounds : Bounds) (l : LimitedRunner R) (pool : R) (begun end : Tenancy × BehindDoors (RecordedRunner (LineLimitedRunner (LimitedRunner R)) Q)) (sessions : ℕ) (may_stop : Bool)
       (outcome : Result (Unit {0}) ServeFault) → l.runner ≡ pool → l.limit ≡ bounds.open_jobs → ((f pool).0 ≡ []) × ((f pool).1.entries ≡ [])
-      → AreRestarted starts_lined taken failed journal_of journals (recovered_tenancy doors states) (door_credits doors) (open_jobs_of states) (new_by_line (door_limits bounds.tenant_jobs doors) l) bounds.keep (without_keys begun)
-      → RemembersNone doors begun.1.keys
+      → AreRestarted starts_lined taken failed journal_of journals (recovered_tenancy doors (desks_of states)) (door_credits doors) (open_jobs_of (desks_of states)) (new_by_line (door_limits bounds.tenant_jobs doors) l) bounds.keep (without_keys begun)
+      → begun.1.keys ≡ keys_of states
       → (serving : IsServingFrom (answers_counting (door_answers_recorded starts_lined (looks_by_line (looks_within looks)) (takes_by_line (takes_within takes)) taken failed)) (λ s. s ≡ begun) end sessions may_stop outcome)
       → (recorded : IsServingTenantsRecorded taken failed journal_of journals states doors bounds sessions may_stop outcome) × (recorded.serving.opened ≡ serving.opened) × (recorded.serving.closed ≡ serving.closed)
-  tenants_recorded_serving journals states doors bounds l pool begun end sessions may_stop outcome is_pool is_limit none restarted keyless serving =
+  tenants_recorded_serving journals states doors bounds l pool begun end sessions may_stop outcome is_pool is_limit none restarted keys serving =
       let kept = serving_kept (doors_as (recorded_as pooled))
       (answers_counting (door_answers_recorded starts_lined (looks_by_line (looks_within looks)) (takes_by_line (takes_within takes)) taken failed))
       (answers_counting (hosted_answers_recorded taken failed))
@@ -160,15 +160,15 @@ module _ {R Q J : Type 0} (f : R → Pool) (taken : Q → List ℕ) (failed : Q 
             granted = restarted.granted;
             credited = restarted.credited;
             started = subst
-                (λ (x : LimitedRunner Pool). RestartsEach (starts_by_line (starts_within pooled_count (StartsBy pooled_at pooled_count))) restarted.granted (new_by_line (door_limits bounds.tenant_jobs doors) x) (open_jobs_of states) begun.0.desks (pooled begun.1.handler.runner))
+                (λ (x : LimitedRunner Pool). RestartsEach (starts_by_line (starts_within pooled_count (StartsBy pooled_at pooled_count))) restarted.granted (new_by_line (door_limits bounds.tenant_jobs doors) x) (open_jobs_of (desks_of states)) begun.0.desks (pooled begun.1.handler.runner))
                 (limited_is f bounds l pool is_pool is_limit)
-                (restarts_alike pooled starts_lined (starts_by_line (starts_within pooled_count (StartsBy pooled_at pooled_count))) lined_starts restarted.granted (new_by_line (door_limits bounds.tenant_jobs doors) l) (open_jobs_of states) begun.0.desks begun.1.handler.runner restarted.started);
+                (restarts_alike pooled starts_lined (starts_by_line (starts_within pooled_count (StartsBy pooled_at pooled_count))) lined_starts restarted.granted (new_by_line (door_limits bounds.tenant_jobs doors) l) (open_jobs_of (desks_of states)) begun.0.desks begun.1.handler.runner restarted.started);
             recorded = restarted.recorded;
             names = restarted.names;
             kept = restarted.kept;
             in_step = restarted.in_step;
           };
-          keyless = keyless;
+          keys = keys;
           end = doors_as (recorded_as pooled) end;
           serving = kept.0;
         },

@@ -9,6 +9,7 @@ use Rattle.accounts.proofs.Listed.{get_within}
 use Rattle.recovery.specs.Histories.{IsAfter}
 use Rattle.desk_journal.specs.DeskSteps.{DeskState, IsNewDesk, MakesBytes}
 use Rattle.desk_journal.specs.OpenJobs.{open_job_at}
+use Rattle.keyed_desk.specs.KeyedSteps.{KeyedState}
 use Rattle.desk_journal.specs.declared.journaled_desk.OpenJob.{OpenJob}
 use Rattle.desk_journal.proofs.OpenLemmas.{AreHeldOpen, held_open, length_set}
 use Rattle.sessions.specs.Grammar.{result}
@@ -26,14 +27,14 @@ use Rattle.tenant_desks.specs.Tenancies.{Tenancy}
 use Rattle.tenant_desks.proofs.DoorLemmas.{asked_plainly}
 use Rattle.tenant_desks.proofs.SeenLemmas.{begins_more, plain_part_from}
 use Rattle.tenant_recorder.specs.TenantCredits.{AreCredited, IsCredited, IsCreditedAt, IsFirstGrant}
-use Rattle.tenant_recorder.specs.TenantsRecorded.{named_answers_recorded, unrecorded}
+use Rattle.tenant_recorder.specs.TenantsRecorded.{keeps_recorded_key, named_answers_recorded, unrecorded}
 use Rattle.tenant_recorder.proofs.Recovered.{same_answers}
 use Rattle.tenant_recorder.proofs.RecordedNames.{own_names_recorded}
 use Rattle.tenant_recorder.specs.TenantRestarts.{RestartsEach, none_yet as none_restarted, one_more as one_restarted}
 use Rattle.job_server.specs.AfterRestart.{AreRecovered, ComesFromJournal, IsToldKnown, Itself, KnownJob}
 use Rattle.job_server.specs.EndToEnd.{IsResultFrame, StaysTold}
 use Rattle.job_server.specs.Kept.{answers_keeping}
-use Rattle.job_server.specs.TenantRecorded.{IsServingTenantsRecorded, hosted_answers_recorded, hosted_tenants_recorded, open_jobs_of}
+use Rattle.job_server.specs.TenantRecorded.{IsServingTenantsRecorded, desks_of, hosted_answers_recorded, hosted_tenants_recorded, open_jobs_of}
 use Rattle.job_server.specs.TenantServing.{door_credits, door_names}
 use Rattle.job_server.specs.TenantsAfterRestart.{IsRecoveredTenantHistory}
 use Rattle.job_server.specs.declared.bounds.Bounds.{Bounds}
@@ -179,18 +180,18 @@ module _ (states : List DeskState) (doors : List TenantDoor) (bounds : Bounds) (
 
 -- ---- a server
 
-module _ {Q J : Type 0} (taken : Q → List ℕ) (failed : Q → Type 0) (journal_of : Q → J) (journals : List J) (states : List DeskState) (doors : List TenantDoor) (bounds : Bounds) (sessions : ℕ) (may_stop : Bool) (outcome : Result (Unit {0}) ServeFault)
+module _ {Q J : Type 0} (taken : Q → List ℕ) (failed : Q → Type 0) (journal_of : Q → J) (journals : List J) (states : List KeyedState) (doors : List TenantDoor) (bounds : Bounds) (sessions : ℕ) (may_stop : Bool) (outcome : Result (Unit {0}) ServeFault)
     (s : IsServingTenantsRecorded taken failed journal_of journals states doors bounds sessions may_stop outcome) where
   abbrev past_counts : (heard : List HistoryEntry) × AreAskedOfDesks s.serving.history heard × Replays (hosted_answers_recorded taken failed) (λ y. y ≡ s.begun) heard s.end
   past_counts = asked_of_desks (hosted_answers_recorded taken failed) (λ y. y ≡ s.begun) s.serving.history s.end s.serving.legal
 
   abbrev asked_of_doors : (plain : List HistoryEntry) × AreAskedPlainly (hosted_tenants_recorded taken failed) (λ y. y ≡ s.begun) past_counts.0 plain s.end × Replays (hosted_tenants_recorded taken failed) (λ y. y ≡ without_keys s.begun) plain (without_keys s.end)
-  asked_of_doors = asked_plainly (hosted_tenants_recorded taken failed) (λ y. y ≡ s.begun) (λ y. y ≡ without_keys s.begun) (λ y is. ap without_keys is) past_counts.0 s.end past_counts.2
+  asked_of_doors = asked_plainly (hosted_tenants_recorded taken failed) (keeps_recorded_key taken failed) (λ y. y ≡ s.begun) (λ y. y ≡ without_keys s.begun) (λ y is. ap without_keys is) past_counts.0 s.end past_counts.2
 
   abbrev asked_by_name : (asked : List HistoryEntry) × AreAskedByName s.begun.0.names asked_of_doors.0 asked × Replays (named_answers_recorded starts_by looks_by takes_by taken failed) (λ y. y ≡ without_keys s.begun) asked (without_keys s.end)
   asked_by_name = own_names_recorded starts_by looks_by takes_by taken failed asked_of_doors.0 (without_keys s.begun) (without_keys s.end) s.restarted.in_step asked_of_doors.2
 
-  recovered : IsRecoveredTenantHistory states doors bounds asked_by_name.0
+  recovered : IsRecoveredTenantHistory (desks_of states) doors bounds asked_by_name.0
   recovered = record {
     first = s.first;
     begun = unrecorded (without_keys s.begun);
@@ -204,7 +205,7 @@ module _ {Q J : Type 0} (taken : Q → List ℕ) (failed : Q → Type 0) (journa
   }
 
   pub recorded_tenants : (heard plain asked : List HistoryEntry) × AreAskedOfDesks s.serving.history heard × AreAskedPlainly (hosted_tenants_recorded taken failed) (λ y. y ≡ s.begun) heard plain s.end × AreAskedByName (door_names doors) plain asked
-      × IsRecoveredTenantHistory states doors bounds asked
+      × IsRecoveredTenantHistory (desks_of states) doors bounds asked
   recorded_tenants = (
     past_counts.0,
     asked_of_doors.0,

@@ -4,6 +4,7 @@ use Rattle.job_core.specs.Admitted.{AdmittedJob}
 use Rattle.accounts.specs.declared.keep_limits.KeepLimits.{KeepLimits}
 use Rattle.accounts.specs.Ledgers.{Ledger}
 use Rattle.desk_journal.specs.DeskSteps.{DeskState}
+use Rattle.keyed_desk.specs.KeyedSteps.{KeyedState}
 use Rattle.desk_recorder.specs.Recording.{IsRecorded}
 use Rattle.desk_recorder.specs.RecordedAnswers.{answers_recorded}
 use Rattle.desk_recorder.specs.Restarts.{StartsEach}
@@ -25,7 +26,7 @@ use Rattle.job_server.specs.declared.tenant_door.TenantDoor.{TenantDoor}
 use Rattle.job_server.specs.AtOnce.{IsServingFrom, Pool, new_desk}
 use Rattle.job_server.specs.Listening.{AreOf, CameBy}
 use Rattle.job_server.specs.TenantServing.{GrantsByNoTenant, IsServingAt, IsServingBy}
-use Rattle.job_server.specs.TenantRecorded.{IsServingTenantsRecorded}
+use Rattle.job_server.specs.TenantRecorded.{IsServingTenantsRecorded, desks_of}
 
 -- no desk has a journal, or each has one: that of everybody else, and that of each of these tenants
 abbrev pub HasJournalEach : {J D : Type 0} → List J → List D → Type 0
@@ -56,7 +57,7 @@ pub record IsRestarted {R Q : Type 0}
   pub fresh : ChangeRecorder Q
   pub none : (taken fresh.queue ≡ []) × (fresh.is_stopped ≡ false)
   pub started : StartsEach starts state.desk runner state.held begun.0 begun.1.runner
-  pub recorded : IsRecorded taken failed fresh begun.1.recorder state.desk begun.0
+  pub recorded : IsRecorded taken failed fresh begun.1.recorder state.desk begun.0 []
   pub kept : begun.1.keep ≡ keep
 
 -- a desk, and a pool within its host's bounds, with the queue of the desk's changes
@@ -87,11 +88,12 @@ pub record IsServingRecorded {Q : Type 0} (taken : Q → List ℕ) (failed : Q �
 
 -- A server with journals, or without one: of one desk, or of one for each of these doors' tenants.
 abbrev pub IsServingWith : {Q J : Type 0} → (Q → List ℕ) → (Q → Type 0) → (Q → J) → List J
-    → List DeskState → List TenantDoor → Bounds → ℕ → Bool → Result (Unit {0}) ServeFault → Type 0
+    → List KeyedState → List TenantDoor → Bounds → ℕ → Bool → Result (Unit {0}) ServeFault → Type 0
 IsServingWith taken failed journal_of [] states doors bounds sessions may_stop outcome =
     IsServingBy doors bounds sessions may_stop outcome
 IsServingWith taken failed journal_of (j ∷ js) states [] bounds sessions may_stop outcome =
-    IsServingRecorded taken failed (recovered_state states) bounds sessions may_stop outcome
+    IsServingRecorded taken failed (recovered_state (desks_of states)) bounds sessions may_stop
+    outcome
 IsServingWith taken failed journal_of (j ∷ js) states (d ∷ ds) bounds sessions may_stop outcome =
     (s : IsServingTenantsRecorded taken failed journal_of (j ∷ js) states (d ∷ ds) bounds sessions
     may_stop outcome)
@@ -99,12 +101,13 @@ IsServingWith taken failed journal_of (j ∷ js) states (d ∷ ds) bounds sessio
 
 -- The same, and the connections are this listener's, each by a passage that it gave.
 abbrev pub IsServingWithAt : {L Q J : Type 0} → (L → L → Type 0) → (L → L → Type 0)
-    → (L → Passage) → L → (Q → List ℕ) → (Q → Type 0) → (Q → J) → List J → List DeskState
+    → (L → Passage) → L → (Q → List ℕ) → (Q → Type 0) → (Q → J) → List J → List KeyedState
     → List TenantDoor → Bounds → ℕ → Bool → Result (Unit {0}) ServeFault → Type 0
 IsServingWithAt opens fails passage_of listener taken failed journal_of [] states doors bounds sessions may_stop outcome =
     IsServingAt opens fails passage_of listener doors bounds sessions may_stop outcome
 IsServingWithAt opens fails passage_of listener taken failed journal_of (j ∷ js) states [] bounds sessions may_stop outcome =
-    (s : IsServingRecorded taken failed (recovered_state states) bounds sessions may_stop outcome)
+    (s : IsServingRecorded taken failed (recovered_state (desks_of states)) bounds sessions may_stop
+    outcome)
     × AreOf opens fails listener s.serving.opened
     × All (λ c. CameBy opens passage_of c.passage) s.serving.closed
 IsServingWithAt opens fails passage_of listener taken failed journal_of (j ∷ js) states (d ∷ ds) bounds sessions may_stop outcome =

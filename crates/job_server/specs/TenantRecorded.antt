@@ -6,6 +6,8 @@ use Rattle.accounts.specs.Ledgers.{Ledger}
 use Rattle.desk_journal.specs.DeskSteps.{DeskState}
 use Rattle.desk_journal.specs.declared.journaled_desk.OpenJob.{OpenJob}
 use Rattle.desk_recorder.specs.declared.recorder.ChangeRecorder.{ChangeRecorder}
+use Rattle.sessions.specs.declared.job_key.KeyedJob.{KeyedJob}
+use Rattle.keyed_desk.specs.KeyedSteps.{KeyedState}
 use Rattle.shared_desk.specs.Histories.{Query}
 use Rattle.shared_desk.specs.ServerAsked.{answers_counting}
 use Rattle.tenant_desks.specs.AtDoors.{BehindDoors, without_keys}
@@ -25,7 +27,14 @@ use Rattle.job_server.specs.declared.fault.ServeFault.{ServeFault}
 use Rattle.job_server.specs.declared.tenant_door.TenantDoor.{TenantDoor}
 use Rattle.job_server.specs.AtOnce.{IsServingFrom, Pool}
 use Rattle.job_server.specs.TenantLimits.{door_limits}
-use Rattle.job_server.specs.TenantServing.{RemembersNone, door_credits, door_names}
+use Rattle.job_server.specs.TenantServing.{door_credits, door_names}
+
+-- the desks that were recovered, with their open jobs, and the keys that were remembered at each
+abbrev pub desks_of : List KeyedState → List DeskState
+desks_of states = map (λ (s : KeyedState). s.desk) states
+
+abbrev pub keys_of : List KeyedState → List (List KeyedJob)
+keys_of states = map (λ (s : KeyedState). s.keys) states
 
 -- the desks that were recovered: that of everybody else, and behind it that of each of these doors'
 -- tenants
@@ -89,10 +98,11 @@ hosted_tenants_recorded taken failed =
     (looks_by_line (looks_within (TellsBy pooled_at pooled_count)))
     (takes_by_line (takes_within (TakesBy pooled_at pooled_count))) taken failed
 
--- So many connections are served, first at recovered desks. Jobs run on a pool that lasts, within the
--- bounds. Each change of a desk is recorded in its own journal's queue.
+-- So many connections are served, first at recovered desks, whose own doors remember the keys that
+-- were recovered. Jobs run on a pool that lasts, within the bounds. Each change of a desk is recorded in
+-- its own journal's queue.
 pub record IsServingTenantsRecorded {Q J : Type 0} (taken : Q → List ℕ) (failed : Q → Type 0)
-    (journal_of : Q → J) (journals : List J) (states : List DeskState) (doors : List TenantDoor)
+    (journal_of : Q → J) (journals : List J) (states : List KeyedState) (doors : List TenantDoor)
     (bounds : Bounds) (sessions : ℕ) (may_stop : Bool) (outcome : Result (Unit {0}) ServeFault) :
     Type 0 where
   pub first : Pool
@@ -100,12 +110,12 @@ pub record IsServingTenantsRecorded {Q J : Type 0} (taken : Q → List ℕ) (fai
   pub begun : RecordedTenantHosted Q
   pub restarted :
       AreRestarted (starts_by_line (starts_within pooled_count (StartsBy pooled_at pooled_count)))
-      taken failed journal_of journals (recovered_tenancy doors states) (door_credits doors)
-      (open_jobs_of states)
+      taken failed journal_of journals (recovered_tenancy doors (desks_of states))
+      (door_credits doors) (open_jobs_of (desks_of states))
       (new_by_line (door_limits bounds.tenant_jobs doors)
       (record { runner = first; limit = bounds.open_jobs }))
       bounds.keep (without_keys begun)
-  pub keyless : RemembersNone doors begun.1.keys
+  pub keys : begun.1.keys ≡ keys_of states
   pub end : RecordedTenantHosted Q
   pub serving : IsServingFrom (answers_counting (hosted_answers_recorded taken failed))
       (λ s. s ≡ begun) end sessions may_stop outcome

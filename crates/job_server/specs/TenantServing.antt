@@ -7,7 +7,7 @@ use Rattle.shared_desk.specs.declared.door.Door.TheVariants.{Tenant}
 use Rattle.shared_desk.specs.declared.passage.Passage.{Passage}
 use Rattle.tenant_desks.specs.Tenancies.{IsFirstTenancy, Tenancy}
 use Rattle.tenant_desks.specs.Answering.{KeptRunner, tenant_answers}
-use Rattle.tenant_desks.specs.AtDoors.{BehindDoors, answers_at_doors}
+use Rattle.tenant_desks.specs.AtDoors.{BehindDoors, answers_at_doors, keeps_no_key}
 use Rattle.job_pools.specs.Holds.{StartsBy, TellsBy, TakesBy}
 use Rattle.job_pools.specs.Started.{pooled_at, pooled_count}
 use Rattle.job_pools.specs.Bounded.{looks_within, starts_within, takes_within}
@@ -45,7 +45,7 @@ abbrev pub DoorsHosted : Type 0
 DoorsHosted = Tenancy × BehindDoors (KeptRunner (LineLimitedRunner (LimitedRunner Pool)))
 
 abbrev pub hosted_door_answers : DoorsHosted → Query → List ℕ → DoorsHosted → Type 0
-hosted_door_answers = answers_at_doors hosted_tenant_answers
+hosted_door_answers = answers_at_doors hosted_tenant_answers keeps_no_key
 
 -- none of these doors remembers a key, nor does that of everybody else
 abbrev pub RemembersNone : List TenantDoor → List (List KeyedJob) → Type 0

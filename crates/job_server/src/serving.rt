@@ -13,12 +13,12 @@ use crate::plan::Plan;
 use crate::serving_pooled::{serve_journaled, serve_unrecorded};
 use crate::timed_listener::TimedListener;
 use crate::timed_reader::Waiting;
-use desk_journal::JournaledDesk;
 use job_pools::{
     EndedJob, Inlet, JobRegister, Keeper, LastingPool, LimitedRunner, NewQueueHistory, NewRegister,
     Outlet, QueuedJob, RegisterId, TurnCloser, TurnInlet, TurnOutlet, queue_in_turns, queue_to_one,
     start_workers,
 };
+use keyed_desk::KeyedDesk;
 use std::alloc::Global;
 use std::marker::Brand;
 use std::net::{Net, TcpListener, TcpStream};
@@ -54,7 +54,7 @@ fn serve_on_pool<
     queues: Queues<J>,
     listener: L,
     plan: Plan<'s>,
-    states: Vec<JournaledDesk>,
+    states: Vec<KeyedDesk>,
 ) -> Result<(), ServeFault>
     requires keeper { keeper ≡ [] }
     requires workers { (1 ≤ plan.workers) × (plan.workers ≤ 16) }
@@ -109,7 +109,7 @@ fn serve_in_scope<
     queues: Queues<J>,
     listener: L,
     plan: Plan<'_>,
-    states: Vec<JournaledDesk>,
+    states: Vec<KeyedDesk>,
 ) -> Result<(), ServeFault>
     requires keeper { keeper ≡ [] }
     requires workers { (1 ≤ plan.workers) × (plan.workers ≤ 16) }
@@ -171,7 +171,7 @@ fn serve_registered<
     new_history: NewQueueHistory,
     listener: L,
     plan: Plan<'_>,
-    states: Vec<JournaledDesk>,
+    states: Vec<KeyedDesk>,
 ) -> Result<(), ServeFault>
     requires named { new_register ≡ J.table }
     requires named_turns { new_history ≡ J.turns }
@@ -226,7 +226,7 @@ pub fn serve_listener<R: Threads + Wait + Clock + Sync, L: Listener + Send + Dro
     alloc: Global,
     listener: L,
     plan: Plan<'_>,
-    states: Vec<JournaledDesk>,
+    states: Vec<KeyedDesk>,
 ) -> Result<(), ServeFault>
     requires workers { (1 ≤ plan.workers) × (plan.workers ≤ 16) }
     requires tenants { length plan.tenants.now ≤ 256 }
@@ -256,7 +256,7 @@ pub fn serve_port<
     alloc: Global,
     port: u16,
     plan: Plan<'_>,
-    states: Vec<JournaledDesk>,
+    states: Vec<KeyedDesk>,
 ) -> Result<(), ServeFault>
     requires workers { (1 ≤ plan.workers) × (plan.workers ≤ 16) }
     requires tenants { length plan.tenants.now ≤ 256 }

@@ -12,7 +12,7 @@ use crate::serving::serve_listener;
 use crate::tenant_door::TenantDoor;
 use crate::tenants_listener::TenantsListener;
 use crate::timed_listener::TimedListener;
-use desk_journal::JournaledDesk;
+use keyed_desk::KeyedDesk;
 use std::alloc::Global;
 use std::fs;
 use std::fs::Files;
@@ -61,7 +61,7 @@ fn serve_tenants<R: Net + Files + Threads + Wait + Clock + Sync>(
     all: UnixListener,
     grants: Option<UnixListener>,
     plan: Plan<'_>,
-    states: Vec<JournaledDesk>,
+    states: Vec<KeyedDesk>,
 ) -> Result<(), ServeFault>
     requires workers { (1 ≤ plan.workers) × (plan.workers ≤ 16) }
     requires tenants { length plan.tenants.now ≤ 256 }
@@ -94,7 +94,7 @@ fn serve_beside<R: Net + Files + Threads + Wait + Clock + Sync>(
     all: UnixListener,
     grants: Option<&str>,
     plan: Plan<'_>,
-    states: Vec<JournaledDesk>,
+    states: Vec<KeyedDesk>,
 ) -> Result<(), ServeFault>
     requires workers { (1 ≤ plan.workers) × (plan.workers ≤ 16) }
     requires tenants { length plan.tenants.now ≤ 256 }
@@ -123,7 +123,7 @@ pub(crate) fn serve_doors<R: Net + Files + Threads + Wait + Clock + Sync>(
     socket: &str,
     grants: Option<&str>,
     plan: Plan<'_>,
-    states: Vec<JournaledDesk>,
+    states: Vec<KeyedDesk>,
 ) -> Result<(), ServeFault>
     requires workers { (1 ≤ plan.workers) × (plan.workers ≤ 16) }
     requires tenants { length plan.tenants.now ≤ 256 }

@@ -12,8 +12,8 @@ use crate::plan::Plan;
 use crate::serving_desks::{serve_at_desk, serve_at_desks};
 use crate::serving_recorded::serve_recorded;
 use crate::serving_tenants_recorded::serve_tenants_recorded;
-use desk_journal::JournaledDesk;
 use job_pools::{LastingPool, LimitedRunner, RegisterId};
+use keyed_desk::KeyedDesk;
 use std::alloc::Global;
 use std::sync::Wait;
 use std::thread::Threads;
@@ -57,7 +57,7 @@ pub(crate) fn serve_journaled<
     listener: L,
     runner: LimitedRunner<LastingPool<'s, R, J>>,
     plan: Plan<'s>,
-    states: Vec<JournaledDesk>,
+    states: Vec<KeyedDesk>,
 ) -> Result<(), ServeFault>
     requires none { (runner.runner.keeper ≡ []) × (runner.runner.boards.entries ≡ []) }
     requires limit { runner.limit ≡ plan.bounds.open_jobs }

@@ -10,14 +10,16 @@ ghost use Rattle.shared_journal.specs.declared.journal_queue.JournalQueue.{Journ
 ghost use Rattle.job_server.specs.AtOnce.{IsServingFrom};
 ghost use Rattle.job_server.specs.Listening.{AreOf, CameBy};
 ghost use Rattle.job_server.specs.Recorded.{IsRestarted, queue_taken, queue_told, recovered_state};
+ghost use Rattle.job_server.specs.TenantRecorded.{desks_of};
 
 use crate::at_once::serve_at_once;
 use crate::fault::ServeFault;
 use crate::listener::Listener;
 use crate::plan::Plan;
 use accounts::Desk;
-use desk_journal::{JournaledDesk, OpenJob};
+use desk_journal::OpenJob;
 use desk_recorder::RecordingHandler;
+use keyed_desk::KeyedDesk;
 use server_log::{CountingHandler, LoggedHandler};
 use shared_journal::JournalQueue;
 use std::alloc::Global;
@@ -27,14 +29,17 @@ use std::time::Clock;
 use streams::Runner;
 
 // The one desk that was recovered, and its open jobs.
-fn parts_of(alloc: Global, states: Vec<JournaledDesk>) -> (Desk, Vec<OpenJob>)
+fn parts_of(alloc: Global, states: Vec<KeyedDesk>) -> (Desk, Vec<OpenJob>)
     requires { length states.items ≡ 1 }
-    ensures { (result.0 ≡ (recovered_state states.items).desk)
-        × (result.1.items ≡ (recovered_state states.items).held) }
+    ensures { (result.0 ≡ (recovered_state (desks_of states.items)).desk)
+        × (result.1.items ≡ (recovered_state (desks_of states.items)).held) }
 {
     let mut states = states;
     match states.pop() {
-        Some(state) => state.into_parts(),
+        Some(state) => {
+            let (desk, _keys) = state.into_parts();
+            desk.into_parts()
+        }
         None => (Desk::new(alloc), Vec::new(alloc)),
     }
 }
@@ -52,14 +57,14 @@ pub(crate) fn serve_recorded<
     listener: L,
     runner: N,
     plan: Plan<'s>,
-    states: Vec<JournaledDesk>,
+    states: Vec<KeyedDesk>,
 ) -> Result<(), ServeFault>
     requires ready { N.ready runner }
     requires journal { length plan.journals.now ≡ 1 }
     requires state { length states.items ≡ 1 }
     ensures { (begun : Ledger × RecordingHandler N (JournalQueue R))
         × (end : Ledger × RecordingHandler N (JournalQueue R))
-        × IsRestarted N.starts queue_taken queue_told (recovered_state states.items) runner
+        × IsRestarted N.starts queue_taken queue_told (recovered_state (desks_of states.items)) runner
         plan.entry.bounds.keep begun
         × (s : IsServingFrom (answers_counting (by_any_passage (answers_recorded N.starts N.looks
         N.takes queue_taken queue_told))) (λ s. s ≡ begun) end plan.entry.sessions (is_some plan.entry.stop) result)

@@ -11,7 +11,7 @@ use crate::plan::Plan;
 use crate::serving::serve_listener;
 use crate::serving_doors::serve_doors;
 use crate::timed_listener::TimedListener;
-use desk_journal::JournaledDesk;
+use keyed_desk::KeyedDesk;
 use std::alloc::Global;
 use std::fs;
 use std::fs::Files;
@@ -26,7 +26,7 @@ fn serve_one<R: Net + Files + Threads + Wait + Clock + Sync>(
     alloc: Global,
     socket: &str,
     plan: Plan<'_>,
-    states: Vec<JournaledDesk>,
+    states: Vec<KeyedDesk>,
 ) -> Result<(), ServeFault>
     requires workers { (1 ≤ plan.workers) × (plan.workers ≤ 16) }
     requires tenants { plan.tenants.now ≡ [] }
@@ -53,7 +53,7 @@ fn serve_two<R: Net + Files + Threads + Wait + Clock + Sync>(
     socket: &str,
     grants: &str,
     plan: Plan<'_>,
-    states: Vec<JournaledDesk>,
+    states: Vec<KeyedDesk>,
 ) -> Result<(), ServeFault>
     requires workers { (1 ≤ plan.workers) × (plan.workers ≤ 16) }
     requires tenants { plan.tenants.now ≡ [] }
@@ -95,7 +95,7 @@ pub fn serve_sockets<R: Net + Files + Threads + Wait + Clock + Sync>(
     socket: &str,
     grants: Option<&str>,
     plan: Plan<'_>,
-    states: Vec<JournaledDesk>,
+    states: Vec<KeyedDesk>,
 ) -> Result<(), ServeFault>
     requires workers { (1 ≤ plan.workers) × (plan.workers ≤ 16) }
     requires tenants { length plan.tenants.now ≤ 256 }

@@ -16,8 +16,8 @@ ghost use Rattle.job_server.specs.AtOnce.{IsServingFrom};
 ghost use Rattle.job_server.specs.Listening.{AreOf, CameBy};
 ghost use Rattle.job_server.specs.Recorded.{queue_journal, queue_taken, queue_told};
 ghost use Rattle.job_server.specs.TenantLimits.{door_limits};
-ghost use Rattle.job_server.specs.TenantRecorded.{AreFresh, AreRestarted, open_jobs_of, recovered_tenancy};
-ghost use Rattle.job_server.specs.TenantServing.{RemembersNone, door_credits};
+ghost use Rattle.job_server.specs.TenantRecorded.{AreFresh, AreRestarted, desks_of, keys_of, open_jobs_of, recovered_tenancy};
+ghost use Rattle.job_server.specs.TenantServing.{door_credits};
 ghost use Rattle.job_server.specs.declared.fault.ServeFault.TheVariants as fault;
 
 use crate::at_once::{NO_MEMORY, serve_at_once};
@@ -28,8 +28,9 @@ use crate::serving_desks::limited_by_door;
 use crate::tenant_door::{TenantDoor, credits_of, names_of};
 use crate::tenant_recording::TenantRecording;
 use accounts::Desk;
-use desk_journal::{JournaledDesk, OpenJob};
+use desk_journal::OpenJob;
 use job_pools::LineLimitedRunner;
+use keyed_desk::KeyedDesk;
 use refusal::NoMemory;
 use server_log::CountingHandler;
 use shared_journal::{JournalQueue, SharedJournal};
@@ -41,45 +42,51 @@ use streams::Runner;
 use tenant_desks::{DoorKeys, TenantDesks, TenantDoors};
 use tenant_recorder::RecordingTenantHandler;
 
-// The desks that were recovered, and the open jobs of each.
+// The desks that were recovered, the open jobs of each, and doors that remember the keys of each.
 fn parts_of_each(
     alloc: Global,
-    states: Vec<JournaledDesk>,
-) -> Result<(Vec<Desk>, Vec<Vec<OpenJob>>), NoMemory>
+    states: Vec<KeyedDesk>,
+) -> Result<(Vec<Desk>, Vec<Vec<OpenJob>>, DoorKeys), NoMemory>
     ensures desks { IfOk result (λ parts. parts.0.items
-        ≡ map (λ (s : DeskState). s.desk) states.items) }
+        ≡ map (λ (s : DeskState). s.desk) (desks_of states.items)) }
     ensures jobs { IfOk result (λ parts. map (λ (jobs : Vec OpenJob Global). jobs.items) parts.1.items
-        ≡ open_jobs_of states.items) }
+        ≡ open_jobs_of (desks_of states.items)) }
+    ensures keys { IfOk result (λ parts. parts.2 ≡ keys_of states.items) }
     ensures count { IfOk result (λ parts. (length parts.0.items ≡ length states.items)
         × (length parts.1.items ≡ length states.items)) }
 {
     let mut desks = Vec::new(alloc);
     let mut jobs = Vec::new(alloc);
+    let mut doors = DoorKeys::none(alloc);
     'states: for state in states {
-        let (desk, held) = state.into_parts();
+        let (journaled, keys) = state.into_parts();
+        let (desk, held) = journaled.into_parts();
         desks.push(desk)?;
         jobs.push(held)?;
+        doors.add(keys)?;
     }
-    Ok((desks, jobs))
+    Ok((desks, jobs, doors))
 }
 
 // The same, as desks of these doors' tenants and of everybody else.
 fn recovered_desks(
     alloc: Global,
     doors: &[TenantDoor],
-    states: Vec<JournaledDesk>,
-) -> Result<(TenantDesks, Vec<Vec<OpenJob>>), NoMemory>
+    states: Vec<KeyedDesk>,
+) -> Result<(TenantDesks, Vec<Vec<OpenJob>>, DoorKeys), NoMemory>
     requires doors { length doors.now ≤ 256 }
     requires states { length states.items ≡ length doors.now + 1 }
-    ensures desks { IfOk result (λ parts. parts.0 ≡ recovered_tenancy doors.now states.items) }
+    ensures desks { IfOk result
+        (λ parts. parts.0 ≡ recovered_tenancy doors.now (desks_of states.items)) }
     ensures jobs { IfOk result (λ parts. map (λ (jobs : Vec OpenJob Global). jobs.items) parts.1.items
-        ≡ open_jobs_of states.items) }
+        ≡ open_jobs_of (desks_of states.items)) }
+    ensures keys { IfOk result (λ parts. parts.2 ≡ keys_of states.items) }
     ensures count { IfOk result (λ parts. (length parts.0.desks ≡ length states.items)
         × (length parts.1.items ≡ length states.items)) }
 {
     let names = names_of(alloc, doors)?;
-    let (desks, jobs) = parts_of_each(alloc, states)?;
-    Ok((TenantDesks::of(names, desks), jobs))
+    let (desks, jobs, keys) = parts_of_each(alloc, states)?;
+    Ok((TenantDesks::of(names, desks), jobs, keys))
 }
 
 // A queue for each journal, in order, which has taken nothing.
@@ -122,9 +129,10 @@ fn recording_handler<'s, R: Wait, N: Runner + Drop>(
 
 /// Serves the connections at recovered desks: one for each of the plan's tenants, and one for
 /// everybody else. First each tenant has its first credit, unless something was granted to it before,
-/// and the open jobs of each desk are started again. The journal of each desk takes the
-/// record of each of its changes. The runner runs the jobs of all, as many of each desk as its limit
-/// allows. Refused where there is no memory for what this takes, ahead of the first start.
+/// and the open jobs of each desk are started again. Each desk's own door remembers the keys that
+/// were recovered with it. The journal of each desk takes the record of each of its changes. The
+/// runner runs the jobs of all, as many of each desk as its limit allows. Refused where there is no
+/// memory for what this takes, ahead of the first start.
 pub(crate) fn serve_tenants_recorded<
     's,
     R: Threads + Wait + Clock + Sync,
@@ -136,7 +144,7 @@ pub(crate) fn serve_tenants_recorded<
     listener: L,
     runner: N,
     plan: Plan<'s>,
-    states: Vec<JournaledDesk>,
+    states: Vec<KeyedDesk>,
 ) -> Result<(), ServeFault>
     requires ready { N.ready runner }
     requires tenants { length plan.tenants.now ≤ 256 }
@@ -145,11 +153,11 @@ pub(crate) fn serve_tenants_recorded<
     ensures { ((begun : Tenancy × BehindDoors (RecordedRunner (LineLimitedRunner N) (JournalQueue R)))
         × (end : Tenancy × BehindDoors (RecordedRunner (LineLimitedRunner N) (JournalQueue R)))
         × AreRestarted (starts_by_line N.starts) queue_taken queue_told queue_journal
-        plan.entry.journals.now (recovered_tenancy plan.entry.tenants.now states.items)
-        (door_credits plan.entry.tenants.now) (open_jobs_of states.items)
+        plan.entry.journals.now (recovered_tenancy plan.entry.tenants.now (desks_of states.items))
+        (door_credits plan.entry.tenants.now) (open_jobs_of (desks_of states.items))
         (new_by_line (door_limits plan.entry.bounds.tenant_jobs plan.entry.tenants.now) runner)
         plan.entry.bounds.keep (without_keys begun)
-        × RemembersNone plan.entry.tenants.now begun.1.keys
+        × (begun.1.keys ≡ keys_of states.items)
         × (s : IsServingFrom (answers_counting (door_answers_recorded (starts_by_line N.starts)
         (looks_by_line N.looks) (takes_by_line N.takes) queue_taken queue_told)) (λ s. s ≡ begun) end
         plan.entry.sessions (is_some plan.entry.stop) result)
@@ -157,16 +165,13 @@ pub(crate) fn serve_tenants_recorded<
         × All (λ c. CameBy L.opens L.passage c.passage) s.closed)
         ⊎ (result ≡ Err (fault.Connection stream.NoMemory)) }
 {
-    let Ok((mut desks, jobs)) = recovered_desks(alloc, plan.tenants, states) else {
+    let Ok((mut desks, jobs, keys)) = recovered_desks(alloc, plan.tenants, states) else {
         return Err(NO_MEMORY);
     };
     let Ok(tenants) = credits_of(alloc, plan.tenants) else {
         return Err(NO_MEMORY);
     };
     let Ok(mut handler) = recording_handler(rt, alloc, runner, plan) else {
-        return Err(NO_MEMORY);
-    };
-    let Ok(keys) = DoorKeys::new(alloc, plan.tenants.len() + 1) else {
         return Err(NO_MEMORY);
     };
     let Ok(()) = handler.grant_first(alloc, &mut desks, &tenants) else {

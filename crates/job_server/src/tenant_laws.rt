@@ -5,6 +5,7 @@ ghost use Rattle.job_core.specs.Admitted.{AdmittedJob};
 ghost use Rattle.recovery.specs.Histories.{IsAfter};
 ghost use Rattle.desk_journal.specs.DeskSteps.{DeskState, IsNewDesk, MakesBytes};
 ghost use Rattle.desk_journal.specs.OpenJobs.{open_job_at};
+ghost use Rattle.keyed_desk.specs.KeyedSteps.{KeyedState};
 ghost use Rattle.accounts.specs.declared.keep_limits.KeepLimits.{KeepLimits};
 ghost use Rattle.sessions.specs.Replies.{submit_data};
 ghost use Rattle.streams.specs.Answering.{refused};
@@ -16,7 +17,7 @@ ghost use Rattle.tenant_desks.specs.OwnNamed.{AreAskedByName};
 ghost use Rattle.job_server.specs.AfterRestart.{AreRecovered, ComesFromJournal, IsToldKnown, KnownJob};
 ghost use Rattle.job_server.specs.EndToEnd.{AsksForJob, AsksForResult, ComesFromSubmit, HasReply, IsResultFrame, IsToldRefusal, IsToldResult, StaysTold};
 ghost use Rattle.job_server.specs.OwnPayloads.{ComesFromOwnPayload};
-ghost use Rattle.job_server.specs.TenantRecorded.{IsServingTenantsRecorded, hosted_tenants_recorded};
+ghost use Rattle.job_server.specs.TenantRecorded.{IsServingTenantsRecorded, desks_of, hosted_tenants_recorded};
 ghost use Rattle.job_server.specs.TenantResults.{IsTenantHostHistory};
 ghost use Rattle.job_server.specs.TenantServing.{IsServingTenants, door_names, hosted_tenant_answers};
 ghost use Rattle.job_server.specs.TenantsAfterRestart.{IsRecoveredTenantHistory};
@@ -85,7 +86,7 @@ pub fn payloads_lead_to_own_payloads()
 /// very job that a change of that journal took under this number. Then it stays until it is
 /// forgotten.
 pub fn own_results_outlive_restarts<Q: RecordQueue, J>()
-    ensures served { (journal_of : Q → J) (journals : List J) (states : List DeskState)
+    ensures served { (journal_of : Q → J) (journals : List J) (states : List KeyedState)
         (doors : List TenantDoor) (bounds : Bounds) (sessions : ℕ) (may_stop : Bool)
         (outcome : Result (Unit {0}) ServeFault)
         (s : IsServingTenantsRecorded Q.taken Q.has_failed journal_of journals states doors bounds
@@ -94,7 +95,7 @@ pub fn own_results_outlive_restarts<Q: RecordQueue, J>()
         × AreAskedPlainly (hosted_tenants_recorded Q.taken Q.has_failed) (λ x. x ≡ s.begun) heard
         plain s.end
         × AreAskedByName (door_names doors) plain asked
-        × IsRecoveredTenantHistory states doors bounds asked }
+        × IsRecoveredTenantHistory (desks_of states) doors bounds asked }
     ensures told { (states : List DeskState) (doors : List TenantDoor) (bounds : Bounds)
         (history before after : List HistoryEntry) (place : ℕ) (state : DeskState)
         (changes : List (List ℕ)) (e : HistoryEntry) (number : ℕ)

@@ -1,7 +1,7 @@
 //! What answers at the desks of tenants, and records what changes each in its own journal.
 
 use refusal::NoMemory;
-use sessions::{DoorForm, Request};
+use sessions::{DoorForm, JobKey, Request};
 use shared_desk::{Passage, SharedHandler};
 use shared_journal::JournalQueue;
 use std::alloc::Global;
@@ -9,7 +9,7 @@ use std::marker::Model;
 use std::sync::Wait;
 use std::time::Clock;
 use streams::{PendingReply, PreparedRequest, Runner};
-use tenant_desks::{TenantDesks, own_named};
+use tenant_desks::{KeyedHandler, TenantDesks, own_named};
 use tenant_recorder::RecordingTenantHandler;
 
 /// A handler whose journals are lent for as long as it is. What leaves its tenant's name out is asked by
@@ -63,5 +63,24 @@ impl<R: Wait + Clock, N: Runner> SharedHandler<TenantDesks> for TenantRecording<
     ) -> Result<PendingReply, NoMemory> {
         let named = own_named(alloc, &desk.names, passage.door, request);
         self.handler.answer_by(alloc, desk, passage, named, None)
+    }
+}
+
+impl<R: Wait + Clock, N: Runner> KeyedHandler for TenantRecording<'_, R, N> {
+    ghost use Rattle.tenant_recorder.specs.TenantsRecorded.{keeps_recorded_key};
+    ghost use Rattle.job_server.specs.Recorded.{queue_taken, queue_told};
+
+    ghost keeps_key = { keeps_recorded_key queue_taken queue_told };
+
+    fn answer_keyed(
+        &mut self,
+        alloc: Global,
+        desk: &mut TenantDesks,
+        passage: Passage,
+        request: PreparedRequest,
+        key: Option<&JobKey>,
+    ) -> Result<PendingReply, NoMemory> {
+        let named = own_named(alloc, &desk.names, passage.door, request);
+        self.handler.answer_keyed(alloc, desk, passage, named, key)
     }
 }

@@ -1,2 +1,3 @@
 mod PlainChanges
+mod KeyedTexts
 mod ToldLemmas

@@ -10,14 +10,15 @@ use Rattle.job_core.specs.declared.admission.ProgramBytes.{ProgramBytes}
 use Rattle.sessions.specs.Replies.{items, task_data}
 use Rattle.desk_journal.specs.declared.change.DeskChange.{DeskChange}
 use Rattle.desk_journal.specs.declared.change.DeskChange.TheVariants.{Granted, Submitted, Finished, Failed, Forgotten, AccountOpened, JobsSkipped, ReportKept, FailureKept}
-use Rattle.journal_text.specs.ChangeData.{bytes_data, change_data, failed_data, finished_data, forgotten_data, granted_data, kept_data, kept_failure_data, kept_report_data, opened_data, skipped_data, submitted_data, submitted_program, tenant_data}
+use Rattle.journal_text.specs.ChangeData.{bytes_data, change_data, failed_data, finished_data, forgotten_data, granted_data, kept_data, kept_failure_data, kept_report_data, opened_data, skipped_data, submitted_data, submitted_program, name_data}
+use Rattle.journal_text.specs.KeyedData.{key_data, key_kept_data}
 
--- ---- a tenant's name
+-- ---- names and keys
 
-pub text_name : (name : List ℕ) → IsUtf8 name → string name ≡ tenant_data name
+pub text_name : (name : List ℕ) → IsUtf8 name → string name ≡ name_data name
 text_name name is = rw (is_utf8-from_IsUtf8 name is) refl
 
-pub other_name : (name : List ℕ) → (IsUtf8 name → ⊥) → bytes_data name ≡ tenant_data name
+pub other_name : (name : List ℕ) → (IsUtf8 name → ⊥) → bytes_data name ≡ name_data name
 other_name name wrong = go (is_utf8 name) refl
   where
     go : (b : Bool) → is_utf8 name ≡ b → bytes_data name ≡ cond b (string name) (bytes_data name)
@@ -26,8 +27,8 @@ other_name name wrong = go (is_utf8 name) refl
 
 -- ---- no floats
 
-tenant_plain : (name : List ℕ) → has_float (tenant_data name) ≡ false
-tenant_plain name = go (is_utf8 name)
+name_plain : (name : List ℕ) → has_float (name_data name) ≡ false
+name_plain name = go (is_utf8 name)
   where
     go : (b : Bool) → has_float (cond b (string name) (bytes_data name)) ≡ false
     go true = refl
@@ -55,12 +56,19 @@ kept_plain report = rw (tasks_plain report.tasks.items) refl
 
 pub change_plain : (at number : ℕ) (change : DeskChange) → has_float (change_data at number change) ≡ false
 unfolding granted_data submitted_data finished_data failed_data forgotten_data opened_data skipped_data kept_report_data kept_failure_data
-change_plain at number (Granted tenant amount) = rw (tenant_plain tenant.items) refl
-change_plain at number (Submitted tenant programs credit buffer) = rw (programs_plain programs.items, tenant_plain tenant.items) refl
+change_plain at number (Granted tenant amount) = rw (name_plain tenant.items) refl
+change_plain at number (Submitted tenant programs credit buffer) = rw (programs_plain programs.items, name_plain tenant.items) refl
 change_plain at number (Finished job report) = rw (tasks_plain report.tasks.items) refl
 change_plain at number (Failed job code) = refl
 change_plain at number (Forgotten ahead) = refl
-change_plain at number (AccountOpened tenant granted spent) = rw (tenant_plain tenant.items) refl
+change_plain at number (AccountOpened tenant granted spent) = rw (name_plain tenant.items) refl
 change_plain at number (JobsSkipped count) = refl
-change_plain at number (ReportKept tenant credit report) = rw (kept_plain report, tenant_plain tenant.items) refl
-change_plain at number (FailureKept tenant credit code) = rw (tenant_plain tenant.items) refl
+change_plain at number (ReportKept tenant credit report) = rw (kept_plain report, name_plain tenant.items) refl
+change_plain at number (FailureKept tenant credit code) = rw (name_plain tenant.items) refl
+
+pub key_plain : (key : List ℕ) → has_float (key_data key) ≡ false
+key_plain key = rw (name_plain key) refl
+
+pub key_kept_plain : (at job : ℕ) (key : List ℕ) → has_float (key_kept_data at job key) ≡ false
+unfolding key_kept_data
+key_kept_plain at job key = rw (name_plain key) refl

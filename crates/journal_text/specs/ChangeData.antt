@@ -13,9 +13,9 @@ use Rattle.desk_journal.specs.declared.change.DeskChange.TheVariants.{Granted, S
 abbrev pub bytes_data : List ℕ → Data
 bytes_data bytes = object (member (codes "bytes") (string (encode_lower bytes)) no_members)
 
--- a tenant's name, or bytes that no desk takes for one
-abbrev pub tenant_data : List ℕ → Data
-tenant_data name = if is_utf8 name then string name else bytes_data name
+-- a tenant's name or a job's key, or bytes that no desk takes for one
+abbrev pub name_data : List ℕ → Data
+name_data name = if is_utf8 name then string name else bytes_data name
 
 -- a program of a job
 unfoldable pub submitted_program : ProgramBytes → Data
@@ -28,7 +28,7 @@ unfoldable pub granted_data : ℕ → List ℕ → ℕ → Data
 granted_data at tenant amount =
     object (member (codes "amount") (whole amount) (member (codes "at") (whole at)
     (member (codes "change") (string (codes "granted"))
-    (member (codes "tenant") (tenant_data tenant) no_members))))
+    (member (codes "tenant") (name_data tenant) no_members))))
 
 -- a job that was taken, by its number
 unfoldable pub submitted_data : ℕ → ℕ → List ℕ → List ProgramBytes → ℕ → List ℕ → Data
@@ -38,7 +38,7 @@ submitted_data at job tenant programs credit buffer =
     (member (codes "change") (string (codes "submitted"))
     (member (codes "credit") (whole credit) (member (codes "job") (whole job)
     (member (codes "programs") (array (items (map submitted_program programs)))
-    (member (codes "tenant") (tenant_data tenant) no_members)))))))
+    (member (codes "tenant") (name_data tenant) no_members)))))))
 
 -- a job that came to a report
 unfoldable pub finished_data : ℕ → ℕ → Report → Data
@@ -68,7 +68,7 @@ opened_data at tenant granted spent =
     object (member (codes "at") (whole at)
     (member (codes "change") (string (codes "account_opened"))
     (member (codes "granted") (whole granted) (member (codes "spent") (whole spent)
-    (member (codes "tenant") (tenant_data tenant) no_members)))))
+    (member (codes "tenant") (name_data tenant) no_members)))))
 
 -- so many forgotten jobs
 unfoldable pub skipped_data : ℕ → ℕ → Data
@@ -92,7 +92,7 @@ kept_report_data at job tenant credit report =
     (member (codes "change") (string (codes "report_kept"))
     (member (codes "credit") (whole credit) (member (codes "job") (whole job)
     (member (codes "report") (kept_data report)
-    (member (codes "tenant") (tenant_data tenant) no_members))))))
+    (member (codes "tenant") (name_data tenant) no_members))))))
 
 -- a job that failed and is there again, by its number
 unfoldable pub kept_failure_data : ℕ → ℕ → List ℕ → ℕ → ℕ → Data
@@ -100,7 +100,7 @@ kept_failure_data at job tenant credit code =
     object (member (codes "at") (whole at)
     (member (codes "change") (string (codes "failure_kept"))
     (member (codes "code") (whole code) (member (codes "credit") (whole credit)
-    (member (codes "job") (whole job) (member (codes "tenant") (tenant_data tenant) no_members))))))
+    (member (codes "job") (whole job) (member (codes "tenant") (name_data tenant) no_members))))))
 
 -- a change whose record begins at this byte; a job that it takes gets this number
 abbrev pub change_data : ℕ → ℕ → DeskChange → Data

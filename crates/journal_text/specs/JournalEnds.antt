@@ -3,19 +3,19 @@ use Rattle.std.specs.Prelude.{◌≡◌, ℕ, List, ◌++◌, drop, length, map,
 use Rattle.journal.specs.Records.{AllFitRecords, DecodesTo, FitsRecord, IsTorn, journal_of, record_of}
 use Rattle.journal.specs.Tails.{HasNoRecord, IsTail}
 use Rattle.recovery.specs.Histories.{IsAfter}
-use Rattle.desk_journal.specs.DeskChanges.{change_bytes}
-use Rattle.desk_journal.specs.DeskSteps.{DeskState, IsNewDesk, MakesBytes}
-use Rattle.desk_journal.specs.declared.change.DeskChange.{DeskChange}
+use Rattle.keyed_desk.specs.KeyedChanges.{keyed_bytes}
+use Rattle.keyed_desk.specs.KeyedSteps.{IsNewKeyed, KeyedState, MakesKeyed}
+use Rattle.keyed_desk.specs.declared.keyed_change.KeyedChange.{KeyedChange}
 use Rattle.journal_text.specs.ChangeLines.{lines_of}
 use Rattle.journal_text.specs.declared.journal_lines.JournalEnd.{JournalEnd}
 use Rattle.journal_text.specs.declared.journal_lines.JournalEnd.TheVariants.{Tail, NotAChange}
 use Rattle.journal_text.specs.declared.checking.RecordCount.{RecordCount}
 
 -- the bytes begin with the records of these changes, and go on at this byte
-pub record BeginWithChanges (bytes : List ℕ) (changes : List DeskChange) (at : ℕ) : Type 0 where
-  pub whole : bytes ≡ journal_of (map change_bytes changes) ++ drop at bytes
-  pub each : AllFitRecords (map change_bytes changes)
-  pub place : at ≡ length (journal_of (map change_bytes changes))
+pub record BeginWithChanges (bytes : List ℕ) (changes : List KeyedChange) (at : ℕ) : Type 0 where
+  pub whole : bytes ≡ journal_of (map keyed_bytes changes) ++ drop at bytes
+  pub each : AllFitRecords (map keyed_bytes changes)
+  pub place : at ≡ length (journal_of (map keyed_bytes changes))
 
 -- a whole record stands at the front, and its payload is that of no change
 pub record StartWithNoChange (bytes : List ℕ) : Type 0 where
@@ -23,10 +23,10 @@ pub record StartWithNoChange (bytes : List ℕ) : Type 0 where
   pub more : List ℕ
   pub fits : FitsRecord payload
   pub stands : bytes ≡ record_of payload ++ more
-  pub no_change : (change : DeskChange) → change_bytes change ≡ payload → ⊥
+  pub no_change : (change : KeyedChange) → keyed_bytes change ≡ payload → ⊥
 
 -- behind these changes stands no record of a change, but what the end says
-abbrev pub EndChangesWith : List ℕ → ℕ → List DeskChange → JournalEnd → Type 0
+abbrev pub EndChangesWith : List ℕ → ℕ → List KeyedChange → JournalEnd → Type 0
 EndChangesWith bytes budget changes (Tail at kind) =
     BeginWithChanges bytes changes at × IsTorn (drop at bytes) × IsTail (drop at bytes) budget kind
 EndChangesWith bytes budget changes (NotAChange at) =
@@ -35,7 +35,7 @@ EndChangesWith bytes budget changes (NotAChange at) =
 -- of the lines of a journal's first changes a beginning was written
 abbrev pub ArePartlyTold : List ℕ → List ℕ → List ℕ → Type 0
 ArePartlyTold bytes before after =
-    (changes : List DeskChange) × (at : ℕ) × BeginWithChanges bytes changes at
+    (changes : List KeyedChange) × (at : ℕ) × BeginWithChanges bytes changes at
     × (n : ℕ) × (after ≡ before ++ take n (lines_of changes))
 
 -- The journal is one that a desk goes on from: so many whole records, of so many bytes, lead to a
@@ -46,6 +46,6 @@ pub record IsWholeJournal (bytes : List ℕ) (count : RecordCount) : Type 0 wher
   pub reads : DecodesTo bytes payloads tail
   pub records : count.records ≡ length payloads
   pub len : count.len ≡ length (journal_of payloads)
-  pub desk : DeskState
-  pub leads : IsAfter IsNewDesk MakesBytes payloads desk
+  pub desk : KeyedState
+  pub leads : IsAfter IsNewKeyed MakesKeyed payloads desk
   pub undamaged : HasNoRecord tail

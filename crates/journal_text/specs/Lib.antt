@@ -1,3 +1,4 @@
 pub mod ChangeData
+pub mod KeyedData
 pub mod ChangeLines
 pub mod JournalEnds

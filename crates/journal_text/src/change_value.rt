@@ -1,10 +1,11 @@
-//! A change of a desk as a JSON value.
+//! A change of a desk, and a key that a job has again, as a JSON value.
 
 ghost use Rattle.std.specs.Prelude.{◌≡◌, IfOk, map};
 ghost use Rattle.serde_json.specs.Data.{string};
 ghost use Rattle.serde_json.specs.View.{view};
 ghost use Rattle.sessions.specs.Replies.{task_data};
-ghost use Rattle.journal_text.specs.ChangeData.{bytes_data, change_data, failed_data, finished_data, forgotten_data, granted_data, kept_data, kept_failure_data, kept_report_data, opened_data, skipped_data, submitted_data, submitted_program, tenant_data};
+ghost use Rattle.journal_text.specs.ChangeData.{bytes_data, change_data, failed_data, finished_data, forgotten_data, granted_data, kept_data, kept_failure_data, kept_report_data, name_data, opened_data, skipped_data, submitted_data, submitted_program};
+ghost use Rattle.journal_text.specs.KeyedData.{key_data, key_kept_data};
 
 use credit_book::{Report, TaskEnd};
 use desk_journal::DeskChange;
@@ -27,13 +28,13 @@ fn bytes_value(alloc: Global, bytes: &[u8]) -> Result<Value, AllocError>
     json!(in alloc; {"bytes": bytes.as_str()})
 }
 
-// A tenant's name, or bytes that are none.
-fn tenant_value(alloc: Global, tenant: &[u8]) -> Result<Value, AllocError>
-    ensures { IfOk result (λ v. view v ≡ tenant_data tenant.now) }
+// A tenant's name or a job's key, or bytes that are none.
+fn name_value(alloc: Global, name: &[u8]) -> Result<Value, AllocError>
+    ensures { IfOk result (λ v. view v ≡ name_data name.now) }
 {
-    match str::from_utf8(tenant) {
-        Ok(name) => text_value(alloc, name),
-        Err(_) => bytes_value(alloc, tenant),
+    match str::from_utf8(name) {
+        Ok(text) => text_value(alloc, text),
+        Err(_) => bytes_value(alloc, name),
     }
 }
 
@@ -76,7 +77,7 @@ fn task_values(alloc: Global, tasks: &[TaskEnd]) -> Result<Vec<Value>, AllocErro
 fn granted_value(alloc: Global, at: u64, tenant: &[u8], amount: u32) -> Result<Value, AllocError>
     ensures { IfOk result (λ v. view v ≡ granted_data at tenant.now amount) }
 {
-    let tenant = tenant_value(alloc, tenant)?;
+    let tenant = name_value(alloc, tenant)?;
     json!(in alloc; {"amount": amount, "at": at, "change": "granted", "tenant": tenant})
 }
 
@@ -95,7 +96,7 @@ fn submitted_value(
 {
     let buffer = hex::encode(alloc, buffer)?;
     let programs = Value::Array(program_values(alloc, programs)?);
-    let tenant = tenant_value(alloc, tenant)?;
+    let tenant = name_value(alloc, tenant)?;
     json!(in alloc; {"at": at, "buffer": buffer.as_str(), "change": "submitted", "credit": credit, "job": job, "programs": programs, "tenant": tenant})
 }
 
@@ -132,7 +133,7 @@ fn opened_value(
 ) -> Result<Value, AllocError>
     ensures { IfOk result (λ v. view v ≡ opened_data at tenant.now granted spent) }
 {
-    let tenant = tenant_value(alloc, tenant)?;
+    let tenant = name_value(alloc, tenant)?;
     json!(in alloc; {"at": at, "change": "account_opened", "granted": granted, "spent": spent, "tenant": tenant})
 }
 
@@ -165,7 +166,7 @@ fn kept_report_value(
         ≡ kept_report_data at job tenant.now credit report.now) }
 {
     let report = kept_value(alloc, report)?;
-    let tenant = tenant_value(alloc, tenant)?;
+    let tenant = name_value(alloc, tenant)?;
     json!(in alloc; {"at": at, "change": "report_kept", "credit": credit, "job": job, "report": report, "tenant": tenant})
 }
 
@@ -180,11 +181,11 @@ fn kept_failure_value(
 ) -> Result<Value, AllocError>
     ensures { IfOk result (λ v. view v ≡ kept_failure_data at job tenant.now credit code) }
 {
-    let tenant = tenant_value(alloc, tenant)?;
+    let tenant = name_value(alloc, tenant)?;
     json!(in alloc; {"at": at, "change": "failure_kept", "code": code, "credit": credit, "job": job, "tenant": tenant})
 }
 
-/// The change whose record begins at this byte; a job that it takes gets this number.
+/// The change of the desk whose record begins at this byte; a job that it takes gets this number.
 pub(crate) fn change_value(
     alloc: Global,
     at: u64,
@@ -221,4 +222,26 @@ pub(crate) fn change_value(
             code,
         } => kept_failure_value(alloc, at, job, tenant, *credit, *code),
     }
+}
+
+/// An object with this key alone.
+pub(crate) fn key_value(alloc: Global, key: &[u8]) -> Result<Value, AllocError>
+    ensures { IfOk result (λ v. view v ≡ key_data key.now) }
+{
+    let key = name_value(alloc, key)?;
+    json!(in alloc; {"key": key})
+}
+
+/// A job that has its key again.
+#[tactic(auto, unfolding(crate::specs::KeyedData::key_kept_data))]
+pub(crate) fn key_kept_value(
+    alloc: Global,
+    at: u64,
+    job: u64,
+    key: &[u8],
+) -> Result<Value, AllocError>
+    ensures { IfOk result (λ v. view v ≡ key_kept_data at job key.now) }
+{
+    let key = name_value(alloc, key)?;
+    json!(in alloc; {"at": at, "change": "key_kept", "job": job, "key": key})
 }

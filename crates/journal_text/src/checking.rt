@@ -6,12 +6,12 @@ ghost use Rattle.recovery.specs.Histories.{AreStateChanges, RefusesOne};
 ghost use Rattle.recovery.specs.Openings.{IsNotOpened};
 ghost use Rattle.recovery.specs.declared.opening.OpenFault.TheVariants as open_fault;
 ghost use Rattle.recovery.specs.declared.replay.RecoverFault.TheVariants as recover_fault;
-ghost use Rattle.desk_journal.specs.DeskChanges.{change_bytes};
-ghost use Rattle.desk_journal.specs.DeskSteps.{IsNewDesk, MakesBytes, RefusesChangeBytes};
+ghost use Rattle.keyed_desk.specs.KeyedChanges.{keyed_bytes};
+ghost use Rattle.keyed_desk.specs.KeyedSteps.{IsNewKeyed, MakesKeyed, RefusesKeyed};
 ghost use Rattle.journal_text.specs.JournalEnds.{IsWholeJournal};
 
-use desk_journal::JournaledDesk;
 use journal::{HEADER_LEN, first_record, one_reading};
+use keyed_desk::KeyedDesk;
 use recovery::{OpenFault, open_journal};
 use std::alloc::Global;
 
@@ -47,13 +47,13 @@ pub fn check_journal(alloc: Global, bytes: &[u8], budget: usize) -> Result<Recor
     ensures refused { IfErr result (λ fault. IsNotOpened bytes.now budget fault) }
     ensures not_a_change { IsErrOf result (open_fault.NotReplayed recover_fault.NotAChange)
         → (payloads : List (List ℕ)) (tail : List ℕ)
-        → DecodesTo bytes.now payloads tail → AreStateChanges change_bytes payloads → ⊥ }
+        → DecodesTo bytes.now payloads tail → AreStateChanges keyed_bytes payloads → ⊥ }
     ensures not_allowed { IsErrOf result (open_fault.NotReplayed recover_fault.Refused)
         → (payloads : List (List ℕ)) (tail : List ℕ) → DecodesTo bytes.now payloads tail
-        → RefusesOne IsNewDesk MakesBytes RefusesChangeBytes payloads }
+        → RefusesOne IsNewKeyed MakesKeyed RefusesKeyed payloads }
 {
     one_reading();
-    match open_journal::<JournaledDesk>(alloc, bytes, budget) {
+    match open_journal::<KeyedDesk>(alloc, bytes, budget) {
         Ok(_) => Ok(count_records(bytes)),
         Err(fault) => Err(fault),
     }

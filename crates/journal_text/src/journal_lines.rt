@@ -1,13 +1,14 @@
 //! The lines of a journal's changes, in order, and what ends them.
 
 ghost use Rattle.std.specs.Prelude.{◌≡◌, ◌≢◌, ◌++◌, ℕ, List, take, true, false, IfOk, OnOk, OnErr, Err};
-ghost use Rattle.desk_journal.specs.declared.change.DeskChange.{DeskChange};
-ghost use Rattle.journal_text.specs.ChangeLines.{change_line, lines_of, number_after, number_behind};
+ghost use Rattle.keyed_desk.specs.declared.keyed_change.KeyedChange.{KeyedChange};
+ghost use Rattle.journal_text.specs.ChangeLines.{change_line, lines_of, next_number, number_behind};
 ghost use Rattle.journal_text.specs.JournalEnds.{ArePartlyTold, EndChangesWith};
 
 use crate::change_text::change_line;
 use desk_journal::DeskChange;
 use journal::{HEADER_LEN, TailKind, first_record, inspect_tail};
+use keyed_desk::KeyedChange;
 use recovery::{ChangeFault, StateChange};
 use std::alloc::Global;
 use streams::{Sink, StreamFault, write_all};
@@ -21,30 +22,32 @@ pub enum JournalEnd {
     NotAChange { at: usize },
 }
 
-// The number after so many jobs. Past the last number of 64 bits it stays there.
-fn number_after(number: u64, count: u64) -> u64
-    ensures { result ≡ number_after number count }
-{
-    if u64::MAX - number < count {
-        return u64::MAX;
-    }
-    number + count
-}
-
-// The number of the next job, where it was this one ahead of a change.
-fn number_behind(number: u64, change: &DeskChange) -> u64
-    ensures { result ≡ number_behind number change.now }
+// The number of the next job, where it was this one ahead of a change of the desk. It goes up to
+// 2^64 - 1 at most.
+fn next_number(number: u64, change: &DeskChange) -> u64
+    ensures { result ≡ next_number number change.now }
 {
     match change {
-        DeskChange::Submitted { .. } => number_after(number, 1),
+        DeskChange::Submitted { .. } => number.saturating_add(1),
         DeskChange::Granted { .. } => number,
         DeskChange::Finished { .. } => number,
         DeskChange::Failed { .. } => number,
         DeskChange::Forgotten { .. } => number,
         DeskChange::AccountOpened { .. } => number,
-        DeskChange::JobsSkipped { count } => number_after(number, *count),
-        DeskChange::ReportKept { .. } => number_after(number, 1),
-        DeskChange::FailureKept { .. } => number_after(number, 1),
+        DeskChange::JobsSkipped { count } => number.saturating_add(*count),
+        DeskChange::ReportKept { .. } => number.saturating_add(1),
+        DeskChange::FailureKept { .. } => number.saturating_add(1),
+    }
+}
+
+// The number of the next job behind a change.
+fn number_behind(number: u64, change: &KeyedChange) -> u64
+    ensures { result ≡ number_behind number change.now }
+{
+    match change {
+        KeyedChange::Plain { change } => next_number(number, change),
+        KeyedChange::ByKey { change, .. } => next_number(number, change),
+        KeyedChange::KeyKept { .. } => number,
     }
 }
 
@@ -53,7 +56,7 @@ fn write_change<W: Sink>(
     alloc: Global,
     at: usize,
     number: u64,
-    change: DeskChange,
+    change: KeyedChange,
     writer: &mut W,
 ) -> Result<u64, StreamFault>
     requires { W.has_failed writer.old ≡ false }
@@ -89,7 +92,7 @@ pub fn write_changes<W: Sink>(
     writer: &mut W,
 ) -> Result<JournalEnd, StreamFault>
     requires { W.has_failed writer.old ≡ false }
-    ensures told { IfOk result (λ end. (changes : List DeskChange)
+    ensures told { IfOk result (λ end. (changes : List KeyedChange)
         × EndChangesWith bytes.now budget changes end
         × (W.transcript writer.new ≡ W.transcript writer.old ++ lines_of changes)) }
     ensures well { OnOk result (W.has_failed writer.new ≡ false) }
@@ -103,7 +106,7 @@ pub fn write_changes<W: Sink>(
     let mut number = 1;
     while let Some(payload) = first_record(rest) {
         let at = bytes.len() - rest.len();
-        let change = match DeskChange::decode(alloc, payload) {
+        let change = match KeyedChange::decode(alloc, payload) {
             Ok(change) => change,
             Err(ChangeFault::NoMemory) => return Err(StreamFault::NoMemory),
             Err(ChangeFault::NotAChange) => return Ok(JournalEnd::NotAChange { at }),

@@ -2,6 +2,7 @@ use Rattle.std.proofs.Common.{inl, inr, refl, sym, subst}
 use Rattle.std.specs.Prelude.{All, is_some}
 use Rattle.job_server.specs.Listening.{AreOf, CameBy}
 use Rattle.job_server.specs.Recorded.{queue_journal, queue_taken, queue_told, recovered_state}
+use Rattle.job_server.specs.TenantRecorded.{desks_of}
 use Rattle.job_server.proofs.ByDoors.{none_if, some_if}
 use Rattle.job_server.proofs.ByJournal.{some_journals, with_journal, with_journals}
 use Rattle.job_server.proofs.RecordedAlike.{recorded_serving}
@@ -13,7 +14,7 @@ returns-then-is_empty g c =
     let at = c.serve_recorded.ensures in
     let limited = c.args.runner in
     let plan = c.args.plan in
-    let hosted = recorded_serving (λ r. (r.keeper, r.boards)) (queue_taken {R = g.row.R.Denot}) (queue_told {R = g.row.R.Denot}) _ _ _ (λ r n j x s h. h.0) (λ r n p s h. h) (λ r x s h. h.0) (recovered_state c.args.states.items) plan.bounds limited limited.runner at.0 at.1 plan.sessions _ c.serve_recorded.result
+    let hosted = recorded_serving (λ r. (r.keeper, r.boards)) (queue_taken {R = g.row.R.Denot}) (queue_told {R = g.row.R.Denot}) _ _ _ (λ r n j x s h. h.0) (λ r n p s h. h) (λ r x s h. h.0) (recovered_state (desks_of c.args.states.items)) plan.bounds limited limited.runner at.0 at.1 plan.sessions _ c.serve_recorded.result
     refl c.requires.limit c.requires.none at.2 at.3 in
     inl
     (with_journal g.L.Listener.opens g.L.Listener.fails g.L.Listener.passage c.args.listener (queue_taken {R = g.row.R.Denot}) (queue_told {R = g.row.R.Denot}) (queue_journal {R = g.row.R.Denot}) plan.journals.now c.args.states.items plan.tenants.now plan.bounds plan.sessions

@@ -3,7 +3,7 @@ use Rattle.desk_journal.specs.declared.journaled_desk.OpenJob.{OpenJob}
 use Rattle.job_pools.specs.LineBounded.{new_by_line, starts_by_line}
 use Rattle.job_server.specs.Recorded.{queue_journal, queue_taken, queue_told}
 use Rattle.job_server.specs.TenantLimits.{door_limits}
-use Rattle.job_server.specs.TenantRecorded.{open_jobs_of, recovered_tenancy}
+use Rattle.job_server.specs.TenantRecorded.{desks_of, open_jobs_of, recovered_tenancy}
 use Rattle.job_server.specs.TenantServing.{door_credits}
 use Rattle.job_server.proofs.DeskStarts.{begun_as}
 use Rattle.job_server.proofs.TenantRestarting.{tenants_restarted}
@@ -13,7 +13,7 @@ pub returns : goal.returns
 returns g c =
     let served = c.serve_at_once-served in
     let plan = c.args.plan in
-    let states = c.args.states.items in
+    let states = desks_of c.args.states.items in
     let made = c.in-Ok-recording_handler in
     let parts = c.in-Ok in
     let first = c.grant_first in
@@ -21,16 +21,16 @@ returns g c =
     let again = c.restart.ensures in
     let desks = c.restart.new.desks in
     let handler = c.restart.new.self in
-    let t = begun_as _ _ _ _ _ _ _ (desks, c.new-counting.result) (desks, record { handler = handler; keys = c.in-Ok-new.keys }) (served.result.0, served.result.1) served.result.2
-    (ap (λ d. (desks, d)) (c.new-counting.ensures ∙ c.of-doors.ensures ∙ ap (λ h. record { handler = h; keys = c.in-Ok-new.keys }) c.of.ensures)) served.ensures in
+    let t = begun_as _ _ _ _ _ _ _ (desks, c.new-counting.result) (desks, record { handler = handler; keys = parts.keys }) (served.result.0, served.result.1) served.result.2
+    (ap (λ d. (desks, d)) (c.new-counting.ensures ∙ c.of-doors.ensures ∙ ap (λ h. record { handler = h; keys = parts.keys }) c.of.ensures)) served.ensures in
     inl (
-      (desks, record { handler = handler; keys = c.in-Ok-new.keys }),
+      (desks, record { handler = handler; keys = parts.keys }),
       t.0,
       tenants_restarted (starts_by_line g.N.Runner.starts) (queue_taken {R = g.row.R.Denot}) (queue_told {R = g.row.R.Denot}) (queue_journal {R = g.row.R.Denot}) plan.journals.now (recovered_tenancy plan.tenants.now states) (door_credits plan.tenants.now) (open_jobs_of states)
           (new_by_line (door_limits plan.bounds.tenant_jobs plan.tenants.now) c.args.runner) plan.bounds.keep parts.desks (said c.deref.result.now) (map (λ (jobs : Vec OpenJob Global). jobs.items) parts.jobs.items) made.handler first.new.desks first.new.self desks handler
           parts.ensures.desks (ap said c.deref.ensures.value ∙ c.in-Ok-credits_of.ensures) parts.ensures.jobs made.ensures.runner made.ensures.keep made.ensures.own made.ensures.fresh (made.ensures.count ∙ sym c.requires.states ∙ sym parts.ensures.count.0)
           c.in-Ok-grant_first.ensures.credited first.ensures.records first.ensures.forgotten first.ensures.same.0 first.ensures.same.1 first.ensures.same.2 again.starts again.records again.forgotten again.same.0 again.same.1,
-      c.in-Ok-new.ensures,
+      parts.ensures.keys,
       t.1,
       t.2,
       t.3,
