@@ -84,9 +84,14 @@ def _report(parts):
 
 
 def change_of(payload):
-    """The change that a payload says: its kind, and its parts."""
+    """The change that a payload says: its kind, and its parts. Of a change by a key these are the key and a change."""
     parts = Payload(payload)
     kind = parts.number(1)
+    if kind == 5:
+        key, change = parts.counted().decode(), change_of(payload[parts.at :])
+        if change[0] in ("by_key", "key_kept"):
+            raise NotARecord
+        return "by_key", key, change
     if kind == 1:
         change = "granted", parts.counted().decode(), parts.number(4)
     elif kind == 2:
@@ -106,6 +111,8 @@ def change_of(payload):
         change = "kept", parts.counted().decode(), parts.number(4), _report(parts)
     elif kind == 10:
         change = "kept", parts.counted().decode(), parts.number(4), {"code": parts.number(1), "ok": False}
+    elif kind == 11:
+        change = "key_kept", parts.number(8), parts.counted().decode()
     else:
         raise NotARecord
     if parts.at != len(payload):
@@ -129,12 +136,28 @@ def failed(job, code):
     return b"\x04" + struct.pack("<QB", job, code)
 
 
+def by_key(key, change):
+    """The payload of a change by a key, from that of the change."""
+    return b"\x05" + struct.pack("<Q", len(key)) + key + change
+
+
+def key_kept(job, key):
+    """The payload of a job that has its key again."""
+    return b"\x0b" + struct.pack("<QQ", job, len(key)) + key
+
+
+# How many keyed jobs a door remembers.
+MOST_KEYS = 1000
+
+
 class Book:
-    """What the changes of a desk come to: its accounts, and its jobs by number. A job that was over when a snapshot
-    was made has no programs and no buffer there, and one that was forgotten then is None."""
+    """What the changes of a desk come to: its accounts, its jobs by number, and its keyed jobs, oldest first. A job
+    that was over when a snapshot was made has no programs and no buffer there, and one that was forgotten then is
+    None."""
 
     def __init__(self):
         self.granted, self.past, self.jobs, self.ends, self.gone = {}, {}, [], {}, set()
+        self.keyed = []
 
     def add(self, change):
         """One change more."""
@@ -170,6 +193,17 @@ class Book:
         self.ends[len(self.jobs)] = end
         self.past[tenant] -= end.get("spent", 0)
         assert self.past[tenant] >= 0
+
+    def by_key_(self, key, change):
+        self.add(change)
+        self.keyed.append((len(self.jobs), key))
+
+    def key_kept_(self, job, key):
+        self.keyed.append((job, key))
+
+    def remembered(self):
+        """The keyed jobs that a door remembers, oldest first."""
+        return self.keyed[-MOST_KEYS:]
 
     def account(self, tenant):
         """The account as a server tells it."""
@@ -280,3 +314,33 @@ class Keeper:
         ran = subprocess.run(words, stdin=subprocess.DEVNULL, capture_output=True, text=True, timeout=PATIENCE, check=False)
         assert ran.stdout == ""
         return ran.returncode, ran.stderr
+
+
+class TenantKeeper(Keeper):
+    """A server with a door and a journal for each tenant. Everybody else is `all`, and grants come by `grants`."""
+
+    def __init__(self, folder, *tenants, **how):
+        super().__init__(folder, "--grants", os.path.join(folder, "grants"), **{"clients": 64, **how})
+        self.folder, self.tenants = folder, list(tenants)
+
+    def path(self, name):
+        return os.path.join(self.folder, name)
+
+    def file(self, name="all"):
+        """The journal of a tenant, or that of everybody else."""
+        return self.journal if name == "all" else f"{self.journal}.{name}"
+
+    def data(self, name="all"):
+        return read(self.file(name))
+
+    def all_data(self):
+        """What all journals have that are there, by their names."""
+        names = sorted(name for name in os.listdir(self.folder) if name.startswith("journal"))
+        return {name: read(self.path(name)) for name in names}
+
+    def command(self, *more):
+        doors = [word for name in self.tenants for word in ("--tenant", f"{name}={self.path(name)}")]
+        return super().command(*doors, *more)
+
+    def connect(self, name="all"):
+        return Raw(self.path(name), self.process)

@@ -85,9 +85,26 @@ SNAPSHOT = [
     journals.granted("other", 1),
 ]
 
+# Changes by keys, and keys that jobs have again, as a snapshot has them.
+KEYED = [
+    account("t", 1000, 5),
+    skipped(1),
+    kept("t", 3, finished(9, 2, 1, b"\x01", [])),
+    journals.submitted("t", ADD, 5, b"\x00\xff"),
+    journals.key_kept(2, b"a"),
+    journals.key_kept(3, b"z" * 64),
+    journals.by_key(b"key-1_", journals.submitted("t", HALF, 3)),
+    journals.submitted("t", HALF, 2),
+    finished(4, 0, 3, b"", []),
+    journals.by_key(b"key-1_", journals.submitted("t", HALF, 2)),
+    journals.by_key(b"0", journals.granted("t", 7)),
+    journals.by_key(b"0", journals.failed(5, 81)),
+    journals.key_kept(2**64 - 1, b"-"),
+]
+
 
 def members_of(change, number):
-    """The members of a change's object, beside its place. A job that is taken gets this number."""
+    """The members of a change's object, beside its place and its key. A job that is taken gets this number."""
     kind, *parts = change
     if kind == "granted":
         return {"change": kind, "tenant": parts[0], "amount": parts[1]}
@@ -110,19 +127,25 @@ def members_of(change, number):
         if end["ok"]:
             return {"change": "report_kept", "report": {name: value for name, value in end.items() if name != "ok"}} | kept
         return {"change": "failure_kept", "code": end["code"]} | kept
+    if kind == "key_kept":
+        return {"change": kind, "job": parts[0], "key": parts[1]}
     return {"change": kind, "ahead": parts[0]}
 
 
-def line_of(members):
-    return json.dumps(members, sort_keys=True, separators=(",", ":")) + "\n"
+def line_of(members, key=None):
+    """The members in order, and behind them the key of a change by a key."""
+    line = json.dumps(members, sort_keys=True, separators=(",", ":"))
+    return (line if key is None else f'{line[:-1]},"key":{json.dumps(key)}}}') + "\n"
 
 
 def lines_of(data):
     """The lines of the whole records at the front."""
     lines, number = [], 1
     for place, payload in zip(starts_of(data), payloads_of(data)[0]):
-        change = change_of(payload)
-        lines.append(line_of({"at": place, **members_of(change, number)}))
+        change, key = change_of(payload), None
+        if change[0] == "by_key":
+            _, key, change = change
+        lines.append(line_of({"at": place, **members_of(change, number)}, key))
         number += change[1] if change[0] == "skipped" else change[0] in ("submitted", "kept")
     return "".join(lines)
 
@@ -200,6 +223,37 @@ class Records(Told):
                 fault = f"damaged at byte {ahead}: the record there doesn't follow from those ahead"
                 self.assertEqual(self.journal("--check"), (3, "", self.line(fault)))
                 self.assertEqual(self.refused(), fault)
+
+    def test_changes_with_keys(self):
+        data = b"".join(map(record, KEYED))
+        told = [json.loads(line) for line in lines_of(data).splitlines()]
+        self.assertEqual([(one["change"], one.get("job"), one["key"]) for one in told if "key" in one], [
+            ("key_kept", 2, "a"), ("key_kept", 3, "z" * 64), ("submitted", 4, "key-1_"), ("submitted", 6, "key-1_"),
+            ("granted", None, "0"), ("finished", 5, "0"), ("key_kept", 2**64 - 1, "-"),
+        ])
+        self.check_whole(data)
+
+    def test_lines_with_keys_as_they_are_written(self):
+        self.write(b"".join(map(record, [CHANGES[0], journals.by_key(b"abc", CHANGES[2]), journals.key_kept(1, b"abc")])))
+        program = f'[{{"code":"{HALF.hex()}","need":0}}]'
+        self.assertEqual(self.journal()[1].splitlines(), [
+            '{"amount":100,"at":0,"change":"granted","tenant":"t"}',
+            f'{{"at":22,"buffer":"","change":"submitted","credit":3,"job":1,"programs":{program},"tenant":"t","key":"abc"}}',
+            '{"at":100,"change":"key_kept","job":1,"key":"abc"}',
+        ])
+
+    def test_keys_that_no_job_has(self):
+        """A key is told as a name is. The verdict refuses a change by what is no key."""
+        keys = [(b"", ""), (b"a" * 65, "a" * 65), (b"A", "A"), (b'a"\n\xc3\xa9', 'a"\né'), (b"\xff\x00", {"bytes": "ff00"})]
+        for key, told in keys:
+            for payload in (journals.by_key(key, CHANGES[2]), journals.key_kept(1, key)):
+                with self.subTest(payload=payload):
+                    self.write(record(CHANGES[0]) + record(payload))
+                    status, lines, fault = self.journal()
+                    self.assertEqual((status, fault, json.loads(lines.splitlines()[1])["key"]), (0, "", told))
+                    fault = "damaged at byte 22: the record there doesn't follow from those ahead"
+                    self.assertEqual(self.journal("--check"), (3, "", self.line(fault)))
+                    self.assertEqual(self.refused(), fault)
 
     def test_lines_as_they_are_written(self):
         self.write(b"".join(map(record, CHANGES[:6])))
@@ -296,7 +350,10 @@ class Ends(Told):
                 self.check_damaged(bytes(changed), start, f"damaged at byte {start}: a whole record stands at byte {following}")
 
     def test_records_that_say_no_change(self):
-        for payload in (b"", b"\x09", b"\x01", CHANGES[0] + b"\0", b"\x05" + bytes(7)):
+        by_key, key_kept = journals.by_key(b"a", CHANGES[0]), journals.key_kept(1, b"a")
+        with_keys = [by_key + b"\0", by_key[:-1], journals.by_key(b"a", b""), journals.by_key(b"a", by_key),
+                     journals.by_key(b"a", key_kept), key_kept + b"\0", key_kept[:-1], b"\x0b" + bytes(8)]
+        for payload in (b"", b"\x09", b"\x01", CHANGES[0] + b"\0", b"\x05" + bytes(7), *with_keys):
             fault = f"damaged at byte {len(WHOLE)}: the record there is no change of a desk"
             self.check_damaged(WHOLE + record(payload) + WHOLE[:22], len(WHOLE), fault)
 

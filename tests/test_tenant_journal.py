@@ -4,7 +4,6 @@ import contextlib
 import fcntl
 import json
 import os
-import random
 import re
 import resource
 import shutil
@@ -13,12 +12,10 @@ import socket
 import stat
 import subprocess
 import tempfile
-import threading
-import time
 import unittest
 
-from journal_load import Load, good_jobs
-from journals import Keeper, Raw, book_of, payloads_of, read, starts_of, traced
+from journal_load import DoorLoads, good_jobs
+from journals import TenantKeeper, book_of, payloads_of, read, starts_of, traced
 from programs import IS_SLOW, PATIENCE, assemble, submit_text
 from test_journal import grant, open_job, submit
 
@@ -36,36 +33,6 @@ def account(tenant):
 
 def result(job):
     return {"op": "result", "job": job}
-
-
-class TenantKeeper(Keeper):
-    """A server with a door and a journal for each tenant. Everybody else is `all`, and grants come by `grants`."""
-
-    def __init__(self, folder, *tenants):
-        super().__init__(folder, "--grants", os.path.join(folder, "grants"), clients=64)
-        self.folder, self.tenants = folder, list(tenants)
-
-    def path(self, name):
-        return os.path.join(self.folder, name)
-
-    def file(self, name="all"):
-        """The journal of a tenant, or that of everybody else."""
-        return self.journal if name == "all" else f"{self.journal}.{name}"
-
-    def data(self, name="all"):
-        return read(self.file(name))
-
-    def all_data(self):
-        """What all journals have that are there, by their names."""
-        names = sorted(name for name in os.listdir(self.folder) if name.startswith("journal"))
-        return {name: read(self.path(name)) for name in names}
-
-    def command(self, *more):
-        doors = [word for name in self.tenants for word in ("--tenant", f"{name}={self.path(name)}")]
-        return super().command(*doors, *more)
-
-    def connect(self, name="all"):
-        return Raw(self.path(name), self.process)
 
 
 class Room(unittest.TestCase):
@@ -498,67 +465,22 @@ class Synced(Room):
         self.check(self.calls(work), {"alice", "bob"})
 
 
-class Door:
-    """One door of a server, with the journal of its desk, as a load asks for them."""
-
-    def __init__(self, keeper, name):
-        self.keeper, self.name, self.journal = keeper, name, keeper.file(name)
-
-    def connect(self):
-        return self.keeper.connect(self.name)
-
-
 class Kills(Room):
     """A server whose doors are all busy, killed at any moment, and started anew."""
 
-    CREDIT = 2_000_000_000
-
-    def load(self, door, seed, good, clients=1):
-        """The load of one door. Its tenants are granted their credit ahead of it."""
-        load = Load(self.room, seed, good, clients=clients)
-        load.server = Door(self.server, door)
-        for number, tenant in enumerate(load.tenants):
-            tenant.name = door if door != "all" else f"other-{number}"
-            tenant.granted = self.CREDIT
-            tenant.ACTS = [act for act in tenant.ACTS if act.__name__ != "grant"]
-            self.grant(tenant.name, self.CREDIT)
-        return load
-
-    def round(self, loads, longest):
-        self.server.start()
-        for load in loads:
-            with load.server.connect() as client:
-                load.audit(client)
-            load.floor = max(load.numbers, default=0)
-        threads = [threading.Thread(target=load.work, args=(tenant,)) for load in loads for tenant in load.tenants]
-        for thread in threads:
-            thread.start()
-        time.sleep(random.Random(sum(load.told for load in loads)).uniform(0, longest))
-        self.server.kill()
-        for thread in threads:
-            thread.join()
-        # ahead of the next start, which may put a snapshot in a journal's place
-        for load in loads:
-            load.catch_up()
-
     def test_kills(self):
-        self.server.start()
         good = good_jobs(assemble, 5)
-        loads = [self.load("all", 11, good, clients=2), self.load("alice", 12, good), self.load("bob", 13, good)]
-        self.server.kill()
+        doors = DoorLoads(self.server, 11, good, {"all": 2, "alice": 1, "bob": 1})
         for _ in range(5 if IS_SLOW else 10):
-            self.round(loads, 0.3)
-        self.server.start()
-        for load in loads:
-            with load.server.connect() as client:
-                load.audit(client)
-            self.assertEqual(load.wrong, [])
+            doors.round(0.3)
+        doors.audit_all()
+        self.assertEqual(doors.wrong(), [])
+        for load in doors.loads:
             self.assertGreater(len(load.numbers), 5)
-        self.server.kill()
-        for load in loads:
             book = book_of(read(load.server.journal))
-            self.assertEqual(sorted(book.ends), list(range(1, len(book.jobs) + 1)))
             self.assertEqual(set(book.granted), {tenant.name for tenant in load.tenants})
+        self.assertTrue(all(load.book.keyed for load in doors.loads if load.is_keyed))
+        self.assertGreater(sum(load.asked_again for load in doors.loads), 0)
 
 
 if __name__ == "__main__":
