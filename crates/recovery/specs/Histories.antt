@@ -15,6 +15,17 @@ abbrev pub IsAfter : {M : Type 0} → (M → Type 0) → (M → List ℕ → M �
 IsAfter {M} starts steps changes machine =
     (first : M) × starts first × ReplaysChanges steps first changes machine
 
+-- From this state the machine may refuse one of these changes, after those ahead of it.
+pub record RefusesOneFrom {M : Type 0} (steps : M → List ℕ → M → Type 0)
+    (refuses : M → List ℕ → Type 0) (first : M) (payloads : List (List ℕ)) : Type 0 where
+  pub before : List (List ℕ)
+  pub payload : List ℕ
+  pub more : List (List ℕ)
+  pub are : payloads ≡ (before ++ payload ∷ []) ++ more
+  pub machine : M
+  pub after : ReplaysChanges steps first before machine
+  pub refused : refuses machine payload
+
 -- The machine may refuse one of these changes, after those ahead of it.
 pub record RefusesOne {M : Type 0} (starts : M → Type 0) (steps : M → List ℕ → M → Type 0)
     (refuses : M → List ℕ → Type 0) (payloads : List (List ℕ)) : Type 0 where

@@ -4,7 +4,9 @@ ghost use Rattle.std.specs.Prelude.{◌≡◌, ◌++◌, ◌≤◌, ℕ, List, B
 ghost use Rattle.journal.specs.Records.{DecodesTo};
 ghost use Rattle.journal.specs.Logs.{LogState, SurvivesCrash, SurvivesCrashBetween};
 ghost use Rattle.recovery.specs.Crashes.{KeepsHistory, RecoversPrefix};
+ghost use Rattle.recovery.specs.Histories.{IsAfter, ReplaysChanges};
 
+use crate::state_machine::StateMachine;
 use journal::{cut_anywhere, whole_first};
 
 /// Whatever a crash leaves, the first changes are read, with each that is committed.
@@ -37,3 +39,10 @@ pub fn damage_keeps_committed()
 {
     whole_first();
 }
+
+/// A history goes on: changes that lead on from a state after it are one history with it.
+pub fn histories_go_on<M: StateMachine>()
+    ensures { (history more : List (List ℕ)) (machine later : M)
+        → IsAfter M.starts M.steps history machine → ReplaysChanges M.steps machine more later
+        → IsAfter M.starts M.steps (history ++ more) later }
+{}

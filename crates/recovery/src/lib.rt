@@ -23,9 +23,11 @@ mod opening;
 mod replay;
 
 pub use opening::{OpenFault, open_journal};
-pub use replay::{RecoverFault, Recovered, recover};
+pub use replay::{RecoverFault, Recovered, recover, replay_records};
 
 // what a crash leaves
 mod laws;
 
-pub use laws::{crash_between_keeps_committed, crash_keeps_committed, damage_keeps_committed};
+pub use laws::{
+    crash_between_keeps_committed, crash_keeps_committed, damage_keeps_committed, histories_go_on,
+};

@@ -1,8 +1,8 @@
 //! Recovery: a state machine from the bytes that a crash left.
 
-ghost use Rattle.std.specs.Prelude.{◌≡◌, ◌++◌, ℕ, List, take, length, IfOk, OnOk, IsErrOf};
+ghost use Rattle.std.specs.Prelude.{◌≡◌, ◌≤◌, ℕ, List, take, length, IfOk, OnOk, IsErrOf};
 ghost use Rattle.journal.specs.Records.{journal_of, DecodesTo};
-ghost use Rattle.recovery.specs.Histories.{IsAfter, AreStateChanges, RefusesOne};
+ghost use Rattle.recovery.specs.Histories.{IsAfter, ReplaysChanges, AreStateChanges, RefusesOne, RefusesOneFrom};
 ghost use Rattle.recovery.specs.declared.replay.RecoverFault.TheVariants as recover_fault;
 ghost use Rattle.recovery.specs.Crashes.{RecoversPrefix};
 ghost use Rattle.recovery.specs.Journals.{IsRecovered};
@@ -52,6 +52,32 @@ fn replay_one<M: StateMachine>(
     }
 }
 
+/// Replays the records at the front of these bytes on a machine, up to the first that is torn. Tells
+/// how many bytes these records are. After an error some of them may have been replayed.
+pub fn replay_records<M: StateMachine>(
+    alloc: Global,
+    machine: &mut M,
+    bytes: &[u8],
+) -> Result<usize, RecoverFault>
+    ensures replayed { IfOk result (λ len. (payloads : List (List ℕ)) × (tail : List ℕ)
+        × DecodesTo bytes.now payloads tail × ReplaysChanges M.steps machine.old payloads machine.new
+        × (take len bytes.now ≡ journal_of payloads) × (len ≤ length bytes.now)) }
+    ensures damaged { IsErrOf result recover_fault.NotAChange
+        → (payloads : List (List ℕ)) (tail : List ℕ)
+        → DecodesTo bytes.now payloads tail → AreStateChanges M.StateChange.payload payloads → ⊥ }
+    ensures refused { IsErrOf result recover_fault.Refused
+        → (payloads : List (List ℕ)) (tail : List ℕ) → DecodesTo bytes.now payloads tail
+        → RefusesOneFrom M.steps M.refuses machine.old payloads }
+{
+    whole_first();
+    let mut rest = bytes;
+    while let Some(payload) = first_record(rest) {
+        replay_one(alloc, machine, payload)?;
+        rest = rest.split_at(HEADER_LEN + payload.len()).1;
+    }
+    Ok(bytes.len() - rest.len())
+}
+
 /// Replays the records at the front of these bytes, up to the first that is torn.
 pub fn recover<M: StateMachine>(alloc: Global, bytes: &[u8]) -> Result<Recovered<M>, RecoverFault>
     ensures reads { IfOk result (λ found. (payloads : List (List ℕ)) × (tail : List ℕ)
@@ -68,13 +94,9 @@ pub fn recover<M: StateMachine>(alloc: Global, bytes: &[u8]) -> Result<Recovered
         → RefusesOne M.starts M.steps M.refuses payloads }
 {
     one_reading();
-    whole_first();
     let mut machine = M::start(alloc);
-    let mut rest = bytes;
-    while let Some(payload) = first_record(rest) {
-        replay_one(alloc, &mut machine, payload)?;
-        rest = rest.split_at(HEADER_LEN + payload.len()).1;
+    match replay_records(alloc, &mut machine, bytes) {
+        Ok(len) => Ok(Recovered { machine, len }),
+        Err(fault) => Err(fault),
     }
-    let len = bytes.len() - rest.len();
-    Ok(Recovered { machine, len })
 }

@@ -1,72 +1,37 @@
-use Rattle.std.proofs.Common.{◌≡◌, ◌++◌, ◌+◌, ◌∷◌, [], ℕ, List, length, take, drop, arith, refl, ap, subst, ◌∙◌}
-use Rattle.std.proofs.lemmas.List.{length-drop}
-use Rattle.std.proofs.lemmas.Result.{err_from_is_err_and}
-use Rattle.journal.specs.Records.{journal_of, DecodesTo}
-use Rattle.recovery.specs.Histories.{IsAfter, AreStateChanges}
-use Rattle.recovery.specs.declared.replay.RecoverFault.TheVariants.{NotAChange, Refused}
-use Rattle.recovery.proofs.CrashLemmas.{reads_on, good_front, fit_more}
-use Rattle.recovery.proofs.HistoryLemmas.{after_more, change_there, same_fault}
+use Rattle.std.proofs.Common.{◌≡◌, List, ℕ, take, ap, subst, ◌∙◌}
+use Rattle.journal.specs.Records.{journal_of}
+use Rattle.recovery.specs.Histories.{IsAfter}
+use Rattle.recovery.specs.declared.replay.RecoverFault.TheVariants.{Refused}
+use Rattle.recovery.proofs.HistoryLemmas.{fault_alone}
 use Rattle.recovery.proofs.replay.recover.Goals as goal
 
-pub loop-payload-preserved : goal.loop-payload-preserved
-loop-payload-preserved g c =
-    let p = c.in-Some.payload.now in
-    let rest = c.loop-payload.rest.now in
-    let i = c.loop-payload.invariant in
-    let within = i.0 in
-    let shorter = ap length c.split_at.ensures.back in (
-      omega (arith, length-drop (8 + length p) rest),
-      i.1 ++ p ∷ [],
-      reads_on c.args.bytes.now rest c.split_at.result.1.now p i.1 (8 + length p) i.2 c.in-Some.ensures.some.1 c.split_at.ensures.back,
-      fit_more i.1 p i.3 c.in-Some.ensures.some.0,
-      after_more g.M.StateMachine.starts g.M.StateMachine.steps i.1 c.loop-payload.machine p c.replay_one.new.machine i.4 c.in_ok-replay_one.ensures.ok,
-    )
+pub returns-in-Ok-clause-reads : goal.returns-in-Ok-clause-reads
+returns-in-Ok-clause-reads g c =
+    let r = c.in-Ok.ensures.replayed in
+    (r.0, r.1, r.2, (c.start-machine.result, c.start-machine.ensures, r.3), r.4)
 
-pub returns-clause-crash : goal.returns-clause-crash
-returns-clause-crash g c history committed r =
-    let i = c.loop-payload.invariant in
-    let read : DecodesTo c.args.bytes.now i.1 c.loop-payload.rest.now = record { whole = i.2; each = i.3; torn = c.in_default.ensures.none } in
-    let same : i.1 ≡ take r.count history = (c.one_reading.ensures c.args.bytes.now i.1 (take r.count history) c.loop-payload.rest.now r.tail read r.reads).0 in
+pub returns-in-Ok-clause-crash : goal.returns-in-Ok-clause-crash
+returns-in-Ok-clause-crash g c history committed p =
+    let r = c.in-Ok.ensures.replayed in
+    let same : r.0 ≡ take p.count history = (c.one_reading.ensures c.args.bytes.now r.0 (take p.count history) r.1 p.tail r.2 p.reads).0 in
+    let after : IsAfter g.M.StateMachine.starts g.M.StateMachine.steps r.0 c.replay_records.new.machine = (c.start-machine.result, c.start-machine.ensures, r.3) in
     record {
-      count = r.count;
-      at_least = r.at_least;
-      at_most = r.at_most;
-      machine = subst (λ (ps : List (List ℕ)). IsAfter g.M.StateMachine.starts g.M.StateMachine.steps ps c.loop-payload.machine) same i.4;
-      good = good_front c.args.bytes.now c.loop-payload.rest.now i.1 i.2 ∙ ap journal_of same;
+      count = p.count;
+      at_least = p.at_least;
+      at_most = p.at_most;
+      machine = subst (λ (ps : List (List ℕ)). IsAfter g.M.StateMachine.starts g.M.StateMachine.steps ps c.replay_records.new.machine) same after;
+      good = r.4 ∙ ap journal_of same;
     }
 
-pub returns-in_err-replay_one-clause-damaged : goal.returns-in_err-replay_one-clause-damaged
-returns-in_err-replay_one-clause-damaged g c is payloads tail read changes =
-    let p = err_from_is_err_and c.from_residual.result c.from_residual.ensures.1 in
-    let fault = same_fault c.from_residual.result p.0 c.in_err-replay_one.field-0.0 NotAChange p.1 p.2 is in
-    let i = c.loop-payload.invariant in
-    let q = c.in-Some.payload.now in
-    let rest = c.loop-payload.rest.now in
-    let front : c.args.bytes.now ≡ journal_of (i.1 ++ q ∷ []) ++ drop (8 + length q) rest =
-    reads_on c.args.bytes.now rest (drop (8 + length q) rest) q i.1 (8 + length q) i.2 c.in-Some.ensures.some.1 refl in
-    let read_so = subst (λ (b : List ℕ). DecodesTo b payloads tail) front read in
-    let more = c.whole_first.ensures (i.1 ++ q ∷ []) payloads (drop (8 + length q) rest) tail (fit_more i.1 q i.3 c.in-Some.ensures.some.0) read_so in
-    let payload = g.M.StateChange.StateChange.payload in
-    let change = change_there payload i.1 q more.0 (subst (AreStateChanges payload) more.1 changes) in
-    c.in_err-replay_one.ensures.damaged fault change.0 change.1
-
-pub returns-in_err-replay_one-clause-refused : goal.returns-in_err-replay_one-clause-refused
-returns-in_err-replay_one-clause-refused g c is payloads tail read =
-    let p = err_from_is_err_and c.from_residual.result c.from_residual.ensures.1 in
-    let fault = same_fault c.from_residual.result p.0 c.in_err-replay_one.field-0.0 Refused p.1 p.2 is in
-    let i = c.loop-payload.invariant in
-    let q = c.in-Some.payload.now in
-    let rest = c.loop-payload.rest.now in
-    let front : c.args.bytes.now ≡ journal_of (i.1 ++ q ∷ []) ++ drop (8 + length q) rest =
-    reads_on c.args.bytes.now rest (drop (8 + length q) rest) q i.1 (8 + length q) i.2 c.in-Some.ensures.some.1 refl in
-    let read_so = subst (λ (b : List ℕ). DecodesTo b payloads tail) front read in
-    let more = c.whole_first.ensures (i.1 ++ q ∷ []) payloads (drop (8 + length q) rest) tail (fit_more i.1 q i.3 c.in-Some.ensures.some.0) read_so in
+pub returns-in-Err-clause-refused : goal.returns-in-Err-clause-refused
+returns-in-Err-clause-refused g c is payloads tail read =
+    let r = c.in-Err.ensures.refused (fault_alone ℕ c.in-Err.fault Refused is) payloads tail read in
     record {
-      before = i.1;
-      payload = q;
-      more = more.0;
-      are = more.1;
-      machine = c.loop-payload.machine;
-      after = i.4;
-      refused = c.in_err-replay_one.ensures.refused fault;
+      before = r.before;
+      payload = r.payload;
+      more = r.more;
+      are = r.are;
+      machine = r.machine;
+      after = (c.start-machine.result, c.start-machine.ensures, r.after);
+      refused = r.refused;
     }
