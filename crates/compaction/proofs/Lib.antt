@@ -1,1 +1,3 @@
 pub mod SnapshotLemmas
+mod OpenedLemmas
+mod StandingLemmas

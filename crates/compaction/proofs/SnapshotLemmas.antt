@@ -3,14 +3,10 @@ use Rattle.std.proofs.Common.{◌≡◌, ℕ, List, [], ◌∷◌, ◌++◌, ref
 use Rattle.std.specs.Prelude.{◌⊎◌}
 use Rattle.journal.specs.Records.{journal_of, AllFitRecords, DecodesTo}
 use Rattle.recovery.specs.Histories.{ReplaysChanges, IsAfter}
+pub use Rattle.recovery.proofs.HistoryLemmas.{replays_on}
 use Rattle.compaction.specs.Snapshots.{IsAlikeAfter, IsSnapshot, Restores, StandsForHistory, LeadsToHistory}
 
 -- ---- a history that goes on
-
-pub replays_on : {M : Type 0} (steps : M → List ℕ → M → Type 0) (first : M) (history more : List (List ℕ)) (mid later : M)
-    → ReplaysChanges steps first history mid → ReplaysChanges steps mid more later → ReplaysChanges steps first (history ++ more) later
-replays_on {M} steps first [] more mid later r s = subst (λ (m : M). ReplaysChanges steps m more later) r s
-replays_on {M} steps first (change ∷ history) more mid later r s = (r.0, r.1, replays_on steps r.0 history more mid later r.2 s)
 
 -- the state between the first changes and the rest
 pub replays_split : {M : Type 0} (steps : M → List ℕ → M → Type 0) (first : M) (history more : List (List ℕ)) (later : M)

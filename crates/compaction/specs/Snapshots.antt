@@ -1,5 +1,5 @@
 -- A snapshot, and the history that it stands for.
-use Rattle.std.specs.Prelude.{◌≡◌, ℕ, List, []}
+use Rattle.std.specs.Prelude.{◌≡◌, ◌++◌, ◌⊎◌, ℕ, List, []}
 use Rattle.journal.specs.Records.{journal_of, AllFitRecords, DecodesTo}
 use Rattle.recovery.specs.Histories.{IsAfter}
 use Rattle.compaction.specs.Files.{Moments, HasNewJournal}
@@ -47,3 +47,24 @@ pub record IsCompacted {M : Type 0} (starts : M → Type 0) (steps : M → List 
     (alike : M → M → Type 0) (machine : M) (bytes : List ℕ) (moments : Moments) : Type 0 where
   pub snapshot : IsSnapshot starts steps alike machine bytes
   pub replaced : HasNewJournal bytes moments
+
+-- In place of records that lead to a state stand those of a snapshot of it.
+pub record IsInPlace {M : Type 0} (starts : M → Type 0) (steps : M → List ℕ → M → Type 0)
+    (alike : M → M → Type 0) (bytes replaced : List ℕ) : Type 0 where
+  pub history : List (List ℕ)
+  pub fits : AllFitRecords history
+  pub were : replaced ≡ journal_of history
+  pub machine : M
+  pub after : IsAfter starts steps history machine
+  pub snapshot : IsSnapshot starts steps alike machine bytes
+
+-- The bytes stand for those of a whole journal: they are these, or a snapshot stands in place of the
+-- first of them.
+pub record StandsForBytes {M : Type 0} (starts : M → Type 0) (steps : M → List ℕ → M → Type 0)
+    (alike : M → M → Type 0) (bytes whole : List ℕ) : Type 0 where
+  pub base : List ℕ
+  pub replaced : List ℕ
+  pub more : List ℕ
+  pub are : bytes ≡ base ++ more
+  pub were : whole ≡ replaced ++ more
+  pub in_place : (base ≡ replaced) ⊎ IsInPlace starts steps alike base replaced

@@ -1,12 +1,12 @@
 //! A snapshot stands for the history that led to its state.
 
-ghost use Rattle.std.specs.Prelude.{◌≡◌, ◌++◌, [], ℕ, List};
+ghost use Rattle.std.specs.Prelude.{◌≡◌, ◌++◌, ℕ, List};
 ghost use Rattle.journal.specs.Records.{DecodesTo};
 ghost use Rattle.recovery.specs.Histories.{IsAfter};
-ghost use Rattle.compaction.specs.Snapshots.{IsAlikeAfter, LeadsToHistory, Restores, StandsForHistory};
+ghost use Rattle.compaction.specs.Snapshots.{IsAlikeAfter, LeadsToHistory, Restores, StandsForBytes, StandsForHistory};
 
 use crate::snapshot::Snapshot;
-use journal::one_reading;
+use journal::{one_reading, whole_first};
 
 /// Whatever a crash leaves of a compaction, each state that it is recovered to is alike one after
 /// the history.
@@ -51,3 +51,24 @@ pub fn equal_states_keep_history<M: Snapshot>()
         → IsAfter M.starts M.steps payloads machine
         → IsAfter M.starts M.steps history machine }
 {}
+
+/// Bytes that stand for a journal's are records, and have the same torn tail behind them.
+pub fn standing_bytes_are_read<M: Snapshot>()
+    ensures { (bytes whole tail : List ℕ) (history : List (List ℕ))
+        → StandsForBytes M.starts M.steps M.alike bytes whole → DecodesTo whole history tail
+        → (payloads : List (List ℕ)) × DecodesTo bytes payloads tail }
+{
+    whole_first();
+}
+
+/// Whatever a crash leaves of bytes that stand for a journal's, it has the same torn tail, and each
+/// state that it is recovered to is alike one after the journal's history.
+pub fn standing_bytes_keep_state<M: Snapshot>()
+    ensures { (bytes whole tail left : List ℕ) (history payloads : List (List ℕ)) (recovered : M)
+        → StandsForBytes M.starts M.steps M.alike bytes whole → DecodesTo whole history tail
+        → DecodesTo bytes payloads left → IsAfter M.starts M.steps payloads recovered
+        → (left ≡ tail) × IsAlikeAfter M.starts M.steps M.alike history recovered }
+{
+    one_reading();
+    whole_first();
+}

@@ -23,5 +23,6 @@ mod laws;
 
 pub use laws::{
     compaction_keeps_state, compactions_compose, equal_states_keep_history,
-    later_changes_stand_too, snapshot_stands_for_history,
+    later_changes_stand_too, snapshot_stands_for_history, standing_bytes_are_read,
+    standing_bytes_keep_state,
 };
