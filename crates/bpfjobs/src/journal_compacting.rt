@@ -50,8 +50,9 @@ pub fn compacted<R: Files<File = File> + Eprint>(
 {
     match shorten(rt, alloc, path, log, desk, journal) {
         Shortened::NotNeeded(log) => Ok(log),
-        Shortened::Replaced(log, new) => {
+        Shortened::Replaced(log, bytes) => {
             let old = journal.len();
+            let new = bytes.len();
             let _ = eprintln!(rt; "bpfjobs: {path}: compacted from {old} to {new} bytes");
             Ok(log)
         }

@@ -23,7 +23,7 @@ module _ {M : Type 0} (starts : M → Type 0) (steps : M → List ℕ → M → 
       → IsAfter starts steps history machine → journal ≡ journal_of history → file_state log ≡ record { durable = journal; pending = [] }
       → AllGoOnBehind (λ bytes. LeadsToHistory starts steps alike bytes history machine) result
   leads_on (NotNeeded after) s history fit leads is state = stays_behind after s.0 history fit leads is state
-  leads_on (Replaced after len) s history fit leads is state =
-      (s.bytes, new_leads starts steps alike law s.bytes s.bytes history machine s.snapshot leads refl, s.state)
+  leads_on (Replaced after bytes) s history fit leads is state =
+      (bytes.items, new_leads starts steps alike law bytes.items bytes.items history machine s.snapshot leads refl, s.state)
   leads_on (Kept after why) s history fit leads is state = stays_behind after s.0 history fit leads is state
   leads_on Unknown s history fit leads is state = tt

@@ -16,7 +16,7 @@ use std::io::{Seek, SeekFrom, Write};
 #[derive(Drop)]
 pub struct FileLog {
     file: File,
-    durable: GhostBytes,
+    pub(crate) durable: GhostBytes,
     pending: Vec<u8>,
     has_failed: bool,
 }

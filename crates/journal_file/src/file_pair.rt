@@ -1,7 +1,8 @@
 //! A journal's file, and the new file that may take its name.
 
-ghost use Rattle.std.specs.Prelude.{◌≡◌, ◌∷◌, true, IfOk};
-ghost use Rattle.compaction.specs.Files.{newly_opened};
+ghost use Rattle.std.specs.Prelude.{◌≡◌, ◌∷◌, [], true, false, IfOk};
+ghost use Rattle.compaction.specs.Files.{Old, newly_opened};
+ghost use Rattle.journal_file.specs.FileLogs.{file_state};
 ghost use Rattle.journal_file.specs.FilePairs.{pair_moments};
 
 use crate::file_log::FileLog;
@@ -26,6 +27,8 @@ const SYNCED: [u8; 1] = [2];
 const RENAMED: [u8; 1] = [3];
 
 const FOLDER_SYNCED: [u8; 1] = [4];
+
+const STOOD_BESIDE: [u8; 1] = [5];
 
 /// The paths of a journal, of the new file beside it, and of the folder of both.
 #[derive(Debug, Drop)]
@@ -90,6 +93,24 @@ impl<'a, R: Files<File = File>> FilePair<'a, R> {
     /// Removes the new file, which didn't take the journal's name.
     pub fn discard(self) -> io::Result<()> {
         fs::remove_file(self.rt, &self.paths.new)
+    }
+
+    /// From now on the journal is what this log has made durable. Nothing is done: it is for the
+    /// proofs. Until then nothing is said of the journal, which has kept its name.
+    pub fn stand_beside(&mut self, log: &FileLog)
+        requires { (pair_moments self.old).now.named ≡ Old }
+        ensures moments { pair_moments self.new ≡ record {
+          now = record {
+            journal = (file_state log.now).durable;
+            beside = (pair_moments self.old).now.beside;
+            is_synced = false;
+            named = Old;
+          };
+          earlier = [];
+        } }
+        ensures failed { self.new.has_failed ≡ self.old.has_failed }
+    {
+        self.steps = self.steps.then(&STOOD_BESIDE).then_ghost(&log.durable);
     }
 
     // Notes a step, for the proofs.

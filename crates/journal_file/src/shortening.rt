@@ -46,8 +46,8 @@ pub enum KeptBy {
 pub enum Shortened {
     /// A snapshot would be more than half as long: the journal is as it was.
     NotNeeded(FileLog),
-    /// A snapshot of so many bytes took its place.
-    Replaced(FileLog, usize),
+    /// A snapshot took its place: these bytes.
+    Replaced(FileLog, Vec<u8>),
     /// A snapshot should have, and couldn't: the journal is as it was.
     Kept(FileLog, KeptBy),
     /// A call failed, and either file may have the journal's name. Neither may be written to.
@@ -78,7 +78,7 @@ fn paths_of<R: Files<File = File>>(rt: &R, alloc: Global, path: &str) -> io::Res
 }
 
 // The file of this path, which has these bytes, and an empty one beside it with the same permissions.
-fn pair_at<'a, R: Files<File = File>>(
+pub(crate) fn pair_at<'a, R: Files<File = File>>(
     rt: &'a R,
     alloc: Global,
     path: &str,
@@ -119,7 +119,10 @@ fn put_shorter<R: Files<File = File>, M: Snapshot>(
         Err(error) => return Shortened::Kept(log, KeptBy::NotMade(error)),
     };
     match put_snapshot(machine, &bytes, &mut files) {
-        Ok(()) => Shortened::Replaced(files.into_log(&bytes), bytes.len()),
+        Ok(()) => {
+            let log = files.into_log(&bytes);
+            Shortened::Replaced(log, bytes)
+        }
         Err(ReplaceFault::Kept) => {
             let _ = files.discard();
             Shortened::Kept(log, KeptBy::NotWritten)

@@ -17,9 +17,7 @@ returns-in-Ok-put_snapshot g c =
     let long = c.len.ensures in
     let items = c.in-Ok.bytes.ok.0 in
     record {
-      bytes = c.in-Ok.bytes.items;
-      long = let told = c.len-in-Ok-put_snapshot.ensures in omega (arith, told, items);
       snapshot = c.in-Ok.ensures.bytes;
       half = omega (arith, half, long, items);
-      state = c.into_log.ensures replaced ∙ ap durable_log there;
+      state = c.into_log-log.ensures replaced ∙ ap durable_log there;
     }
