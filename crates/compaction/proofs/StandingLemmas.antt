@@ -1,7 +1,8 @@
 -- Bytes that stand for those of a whole journal.
 use Rattle.std.proofs.Common.{◌≡◌, ℕ, List, [], ◌∷◌, ◌++◌, length, drop, refl, sym, ap, subst, ◌∙◌, append_assoc, inl, inr}
 use Rattle.std.proofs.lemmas.List.{drop_at}
-use Rattle.journal.specs.Records.{record_of, journal_of, AllFitRecords, DecodesTo}
+use Rattle.journal.specs.Records.{journal_of, AllFitRecords, DecodesTo}
+use Rattle.journal.proofs.JoinedRecords.{fits_both, journal_both}
 use Rattle.recovery.specs.Histories.{IsAfter}
 use Rattle.compaction.specs.Snapshots.{IsAlikeAfter, IsInPlace, StandsForBytes, StandsForHistory}
 use Rattle.compaction.proofs.SnapshotLemmas.{StepsCarryOver, stands_for}
@@ -18,18 +19,11 @@ WholeFirst = (payloads qs : List (List ℕ)) (rest tail : List ℕ) → AllFitRe
 -- ---- records one behind the other
 
 journal_then : (first more : List (List ℕ)) (tail : List ℕ) → journal_of (first ++ more) ++ tail ≡ journal_of first ++ (journal_of more ++ tail)
-journal_then [] more tail = refl
-journal_then (p ∷ first) more tail =
-    append_assoc (record_of p) (journal_of (first ++ more)) tail
-    ∙ (ap (λ (b : List ℕ). record_of p ++ b) (journal_then first more tail) ∙ sym (append_assoc (record_of p) (journal_of first) (journal_of more ++ tail)))
+journal_then first more tail = ap (λ (b : List ℕ). b ++ tail) (journal_both first more) ∙ append_assoc (journal_of first) (journal_of more) tail
 
 fit_behind : (first more : List (List ℕ)) → AllFitRecords (first ++ more) → AllFitRecords more
 fit_behind [] more all = all
 fit_behind (p ∷ first) more all = fit_behind first more all.1
-
-fit_then : (first more : List (List ℕ)) → AllFitRecords first → AllFitRecords more → AllFitRecords (first ++ more)
-fit_then [] more one two = two
-fit_then (p ∷ first) more one two = (one.0, fit_then first more one.1 two)
 
 -- the same bytes ahead of both
 same_behind : (front xs ys : List ℕ) → front ++ xs ≡ front ++ ys → xs ≡ ys
@@ -51,7 +45,7 @@ read_on law bytes whole more tail first others history fit fits are were read =
       cut.1,
       record {
         whole = are ∙ (ap (λ (b : List ℕ). journal_of others ++ b) same ∙ sym (journal_then others behind tail));
-        each = fit_then others behind fits (fit_behind first behind (subst AllFitRecords cut.1 read.each));
+        each = fits_both others behind fits (fit_behind first behind (subst AllFitRecords cut.1 read.each));
         torn = read.torn;
       },
     )

@@ -1,17 +1,18 @@
 -- Records that are added one behind the other.
-use Rattle.std.proofs.Common.{◌≡◌, ◌⊎◌, ◌+◌, ◌-◌, ◌≤◌, ◌<◌, ◌^◌, ℕ, zero, suc, Vec, Global, true, false, List, [], ◌∷◌, ◌++◌, append_assoc, take, drop, length, replicate, slice_get, nat_eq, if◌then◌else◌, Bool, Option, Some, None, Result, Ok, Err, refl, sym, ap, subst, ◌∙◌, inl, inr, arith}
+use Rattle.std.proofs.Common.{◌≡◌, ◌⊎◌, ◌+◌, ◌-◌, ◌≤◌, ◌<◌, ◌^◌, ℕ, zero, suc, Vec, Global, true, false, List, [], ◌∷◌, ◌++◌, append_assoc, drop, length, slice_get, nat_eq, if◌then◌else◌, Bool, Option, Some, None, Result, Ok, Err, refl, sym, ap, subst, ◌∙◌, inl, inr, arith}
 use Rattle.std.specs.Prelude.{All, IfOk, string_bytes}
 use Rattle.std.specs.Int.{w32, to_le_bytes}
 use Rattle.std.proofs.lemmas.Bool.Decides.{nat_tests}
 use Rattle.std.proofs.lemmas.List.{append-nil, nil_from_length}
-use Rattle.accounts.specs.Forgetting.{IsGone, IsJobOver}
+use Rattle.accounts.specs.Forgetting.{IsGone}
 use Rattle.accounts.specs.Jobs.{is_open, job_at}
 use Rattle.accounts.specs.Restoring.{AreKeptAccounts, IsNextKept}
 use Rattle.accounts.specs.declared.kept_accounts.KeptAccount.{KeptAccount}
 use Rattle.accounts.specs.declared.jobs.JobEntry.{JobEntry}
-use Rattle.accounts.specs.declared.jobs.JobStanding.TheVariants.{Open, Reported, Failed}
+use Rattle.accounts.specs.declared.jobs.JobStanding.TheVariants.{Reported, Failed}
 use Rattle.accounts.proofs.Listed.{get_within, same_some}
 use Rattle.journal.specs.Records.{AllFitRecords, FitsRecord, journal_of, record_of}
+use Rattle.journal.proofs.JoinedRecords.{fits_both, journal_both}
 use Rattle.compaction.specs.Snapshots.{IsSnapshot}
 use Rattle.credit_book.specs.declared.book.Report.{Report}
 use Rattle.desk_journal.specs.AlikeDesks.{AreDesksAlike}
@@ -337,14 +338,6 @@ pub number_is : (jobs : List JobEntry) (sources : List (Vec ℕ Global)) (m n : 
 number_is jobs sources m n rest before now same are = subst (λ (k : ℕ). AreJobsAdded jobs sources k rest before now) same are
 
 -- ---- both together
-
-journal_both : (xs ys : List (List ℕ)) → journal_of (xs ++ ys) ≡ journal_of xs ++ journal_of ys
-journal_both [] ys = refl
-journal_both (x ∷ xs) ys = ap (λ (l : List ℕ). record_of x ++ l) (journal_both xs ys) ∙ sym (append_assoc (record_of x) (journal_of xs) (journal_of ys))
-
-fits_both : (xs ys : List (List ℕ)) → AllFitRecords xs → AllFitRecords ys → AllFitRecords (xs ++ ys)
-fits_both [] ys a b = b
-fits_both (x ∷ xs) ys a b = (a.0, fits_both xs ys a.1 b)
 
 pub snapshot_made : (m : DeskState) (accounts : List KeptAccount) (sources : List (Vec ℕ Global)) (opening payloads : List (List ℕ)) (before mid now : List ℕ) → AreKeptAccounts m.desk accounts → AreHeldFrom 1 m.desk.jobs m.held sources
     → AreAccountChanges accounts opening → AllFitRecords opening → mid ≡ before ++ journal_of opening → AreJobChanges m.desk.jobs sources payloads → AllFitRecords payloads → now ≡ mid ++ journal_of payloads

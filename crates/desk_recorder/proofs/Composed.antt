@@ -3,7 +3,8 @@ use Rattle.std.proofs.Common.{◌≡◌, ◌+◌, ℕ, List, [], ◌∷◌, ◌+
 use Rattle.std.proofs.lemmas.Bool.Decides.{nat_tests}
 use Rattle.std.proofs.lemmas.List.{append-nil}
 use Rattle.accounts.specs.Ledgers.{Ledger}
-use Rattle.journal.specs.Records.{record_of, journal_of, AllFitRecords}
+use Rattle.journal.specs.Records.{record_of, journal_of}
+use Rattle.journal.proofs.JoinedRecords.{fits_both, journal_both}
 use Rattle.recovery.specs.Histories.{ReplaysChanges}
 use Rattle.sessions.specs.JobKeys.{noted}
 use Rattle.sessions.specs.declared.job_key.KeyedJob.{KeyedJob}
@@ -12,14 +13,6 @@ use Rattle.keyed_desk.specs.KeyedSteps.{MakesKeyed}
 use Rattle.desk_recorder.specs.Recording.{HoldsOpen, IsChangeRecord, ChangesLead, IsRecorded, RecordsMore, keyed_state, keyed_taken, last_keyed, noted_each}
 use Rattle.desk_recorder.specs.Histories.{IsDeskHistory, RecordsLead}
 use Rattle.desk_recorder.specs.declared.recorder.ChangeRecorder.{ChangeRecorder}
-
-journal_then : (ps qs : List (List ℕ)) → journal_of (ps ++ qs) ≡ journal_of ps ++ journal_of qs
-journal_then [] qs = refl
-journal_then (p ∷ ps) qs = ap (λ (b : List ℕ). record_of p ++ b) (journal_then ps qs) ∙ sym (append_assoc (record_of p) (journal_of ps) (journal_of qs))
-
-fits_then : (ps qs : List (List ℕ)) → AllFitRecords ps → AllFitRecords qs → AllFitRecords (ps ++ qs)
-fits_then [] qs first second = second
-fits_then (p ∷ ps) qs first second = (first.0, fits_then ps qs first.1 second)
 
 pub noted_then : (keys ks ls : List KeyedJob) → noted_each keys (ks ++ ls) ≡ noted_each (noted_each keys ks) ls
 noted_then keys [] ls = refl
@@ -80,9 +73,9 @@ module _ {Q : Type 0} (taken : Q → List ℕ) (failed : Q → Type 0) where
   pub more_both : (p q r : Q) (d m e : Ledger) (ks ls : List KeyedJob) → RecordsMore taken p q d m ks → RecordsMore taken q r m e ls → RecordsMore taken p r d e (ks ++ ls)
   more_both p q r d m e ks ls first second = record {
     payloads = first.payloads ++ second.payloads;
-    fit = fits_then first.payloads second.payloads first.fit second.fit;
+    fit = fits_both first.payloads second.payloads first.fit second.fit;
     more = second.more ∙ ap (λ (b : List ℕ). b ++ journal_of second.payloads) first.more ∙ append_assoc (taken p) (journal_of first.payloads) (journal_of second.payloads)
-        ∙ ap (λ (b : List ℕ). taken p ++ b) (sym (journal_then first.payloads second.payloads));
+        ∙ ap (λ (b : List ℕ). taken p ++ b) (sym (journal_both first.payloads second.payloads));
     leads = leads_then d m e first.payloads second.payloads ks ls first.leads second.leads;
   }
 

@@ -1,3 +1,4 @@
 pub mod RecordLemmas
+pub mod JoinedRecords
 mod ChecksumLemmas
 mod TailLemmas

@@ -7,6 +7,7 @@ use Rattle.sessions.specs.declared.job_key.KeyedJob.{KeyedJob}
 use Rattle.sessions.proofs.KeyLemmas.{key_short, noted_short}
 use Rattle.sessions.specs.Grammar.{is_job_key}
 use Rattle.journal.specs.Records.{AllFitRecords, FitsRecord, journal_of, record_of}
+use Rattle.journal.proofs.JoinedRecords.{fits_both, journal_both}
 use Rattle.desk_journal.specs.Encodings.{counted_bytes}
 use Rattle.desk_journal.proofs.Added.{Added, all_added, one_added}
 use Rattle.recovery.specs.Histories.{ReplaysChanges}
@@ -85,14 +86,6 @@ keys_added keys rest before now added none =
 
 -- ---- records
 
-journal_both : (ps qs : List (List ℕ)) → journal_of (ps ++ qs) ≡ journal_of ps ++ journal_of qs
-journal_both [] qs = refl
-journal_both (p ∷ ps) qs = ap (λ (l : List ℕ). record_of p ++ l) (journal_both ps qs) ∙ sym (append_assoc (record_of p) (journal_of ps) (journal_of qs))
-
-fit_both : (ps qs : List (List ℕ)) → AllFitRecords ps → AllFitRecords qs → AllFitRecords (ps ++ qs)
-fit_both [] qs first second = second
-fit_both (p ∷ ps) qs first second = (first.0, fit_both ps qs first.1 second)
-
 -- the records of the keys behind a snapshot of the desk are a snapshot of both
 pub snapshot_made : (m : KeyedState) (before mid now bytes : List ℕ) (payloads : List (List ℕ)) → length m.keys ≤ 1000 → mid ≡ before ++ bytes → IsSnapshot IsNewDesk MakesBytes AreDesksAlike m.desk bytes
     → AreKeyChanges m.keys payloads → AllFitRecords payloads → now ≡ mid ++ journal_of payloads
@@ -104,7 +97,7 @@ snapshot_made m before mid now bytes payloads few was snapshot are fit is =
       is ∙ (ap (λ (l : List ℕ). l ++ journal_of payloads) was ∙ append_assoc before bytes (journal_of payloads)),
       record {
         payloads = ps ++ payloads;
-        fits = fit_both ps payloads snapshot.fits fit;
+        fits = fits_both ps payloads snapshot.fits fit;
         restores = record {
           reaches = (
             keyed desk.0 [],
