@@ -1,4 +1,5 @@
-//! A journal at a start, in whose place a snapshot of its desk comes where that is much shorter.
+//! A journal at a start, in whose place a snapshot of its desk comes where that is much shorter, and
+//! the lines that tell of it.
 
 ghost use Rattle.std.specs.Prelude.{◌≡◌, ℕ, List, [], IfOk};
 ghost use Rattle.compaction.specs.Snapshots.{LeadsToHistory};
@@ -6,7 +7,6 @@ ghost use Rattle.keyed_desk.specs.KeyedSnapshots.{AreKeyedAlike};
 ghost use Rattle.keyed_desk.specs.KeyedSteps.{IsNewKeyed, MakesKeyed};
 ghost use Rattle.journal.specs.Records.{AllFitRecords, journal_of};
 ghost use Rattle.journal_file.specs.FileLogs.{file_state};
-ghost use Rattle.journal_file.specs.Shortening.{GoesOnBehind};
 ghost use Rattle.recovery.specs.Histories.{IsAfter};
 
 use crate::journal_faults::FileFault;
@@ -15,8 +15,13 @@ use keyed_desk::KeyedDesk;
 use std::alloc::Global;
 use std::fs::{File, Files};
 
-// Tells why a snapshot didn't take a journal's place.
-fn tell_kept<R: Eprint>(rt: &R, path: &str, why: KeptBy) {
+/// Tells that a snapshot took a journal's place, and how many bytes both have.
+pub fn tell_compacted<R: Eprint>(rt: &R, path: &str, old: usize, new: usize) {
+    let _ = eprintln!(rt; "bpfjobs: {path}: compacted from {old} to {new} bytes");
+}
+
+/// Tells why a snapshot didn't take a journal's place.
+pub fn tell_kept<R: Eprint>(rt: &R, path: &str, why: KeptBy) {
     let _ = match why {
         KeptBy::NoMemory => eprintln!(rt;
             "bpfjobs: {path}: not compacted: no memory for a snapshot"
@@ -29,9 +34,9 @@ fn tell_kept<R: Eprint>(rt: &R, path: &str, why: KeptBy) {
     };
 }
 
-/// The log that a desk's journal goes on with, which was this one over the file of this path. Where a
-/// snapshot of the desk has at most half as many bytes as the journal, it takes the file's place, which
-/// a line tells. Else, and where it can't, the log is the one that there was.
+/// The log that a desk's journal goes on with, which was this one over the file of this path, and its
+/// bytes. Where a snapshot of the desk has at most half as many bytes as the journal, it takes the
+/// file's place, which a line tells. Else, and where it can't, the log is the one that there was.
 ///
 /// Refused where it isn't known which file has the path. Each leads to this desk.
 pub fn compacted<R: Files<File = File> + Eprint>(
@@ -40,25 +45,25 @@ pub fn compacted<R: Files<File = File> + Eprint>(
     path: &str,
     log: FileLog,
     desk: &KeyedDesk,
-    journal: &[u8],
-) -> Result<FileLog, FileFault>
-    ensures { (history : List (List ℕ)) → AllFitRecords history
-        → IsAfter IsNewKeyed MakesKeyed history desk.now → journal.now ≡ journal_of history
-        → file_state log ≡ record { durable = journal.now; pending = [] }
-        → IfOk result (GoesOnBehind (λ bytes.
-        LeadsToHistory IsNewKeyed MakesKeyed AreKeyedAlike bytes history desk.now)) }
+    journal: Vec<u8>,
+) -> Result<(FileLog, Vec<u8>), FileFault>
+    requires { file_state log ≡ record { durable = journal.items; pending = [] } }
+    ensures leads { (history : List (List ℕ)) → AllFitRecords history
+        → IsAfter IsNewKeyed MakesKeyed history desk.now → journal.items ≡ journal_of history
+        → IfOk result (λ settled. LeadsToHistory IsNewKeyed MakesKeyed AreKeyedAlike
+        settled.1.items history desk.now) }
+    ensures settled { IfOk result (λ settled. file_state settled.0
+        ≡ record { durable = settled.1.items; pending = [] }) }
 {
-    match shorten(rt, alloc, path, log, desk, journal) {
-        Shortened::NotNeeded(log) => Ok(log),
+    match shorten(rt, alloc, path, log, desk, &journal) {
+        Shortened::NotNeeded(log) => Ok((log, journal)),
         Shortened::Replaced(log, bytes) => {
-            let old = journal.len();
-            let new = bytes.len();
-            let _ = eprintln!(rt; "bpfjobs: {path}: compacted from {old} to {new} bytes");
-            Ok(log)
+            tell_compacted(rt, path, journal.len(), bytes.len());
+            Ok((log, bytes))
         }
         Shortened::Kept(log, why) => {
             tell_kept(rt, path, why);
-            Ok(log)
+            Ok((log, journal))
         }
         Shortened::Unknown => Err(FileFault::NotReplaced),
     }

@@ -4,8 +4,7 @@ ghost use Rattle.std.specs.Prelude.{◌≡◌, ◌+◌, ℕ, List, [], IfOk, IfS
 ghost use Rattle.std.specs.Arc.{arc_value};
 ghost use Rattle.journal.specs.Records.{DecodesTo};
 ghost use Rattle.journal_file.specs.FileLogs.{file_state};
-ghost use Rattle.journal_file.specs.Shortening.{GoesOnBehind};
-ghost use Rattle.shared_journal.specs.Places.{AreAtTheirPlaces};
+ghost use Rattle.shared_journal.specs.Places.{AreAtTheirPlaces, AreFollowed};
 ghost use Rattle.recovery.specs.Histories.{IsAfter};
 ghost use Rattle.keyed_desk.specs.KeyedSnapshots.{AreKeyedAlike};
 ghost use Rattle.keyed_desk.specs.KeyedSteps.{IsNewKeyed, MakesKeyed};
@@ -13,11 +12,13 @@ ghost use Rattle.compaction.specs.Snapshots.{LeadsToHistory};
 
 use crate::journal_compacting::compacted;
 use crate::journal_faults::{FileFault, SEARCH_BUDGET, fault_of, refused};
+use crate::journal_following::JournalFollowers;
 use bpfjobs_cli::{Serve, journal_paths};
 use journal_file::{FileLog, folder_of};
 use keyed_desk::{KeyedDesk, open_keyed_journal};
 use recovery::Recovered;
-use shared_journal::SharedJournal;
+use refusal::NoMemory;
+use shared_journal::{JournalFollower, SharedJournal};
 use std::alloc::Global;
 use std::fs::{File, Files, TryLockError};
 use std::io::Read;
@@ -28,18 +29,20 @@ use std::{fs, io};
 // The permissions of a new journal, which has what tenants submitted: its owner alone reads it.
 const OF_OWNER: u32 = 0o600;
 
-// A journal that is open, and the desk that its records lead to.
+// A journal that is open, who follows it, and the desk that its records lead to.
 #[derive(Drop)]
 struct OpenedJournal {
     journal: SharedJournal,
+    follower: JournalFollower,
     desk: KeyedDesk,
+    ghost followed: { follower.journal ≡ journal.history },
 }
 
 /// The journals of a server that are open, one for each desk in order, with the paths of their files,
 /// and the desks that their records lead to.
 #[derive(Drop)]
 pub struct OpenedJournals {
-    pub paths: Vec<String>,
+    pub paths: Arc<Vec<String>, Global>,
     pub journals: Arc<Vec<SharedJournal>, Global>,
     pub desks: Vec<KeyedDesk>,
     ghost paired: { length desks.items ≡ length (arc_value journals).items },
@@ -76,45 +79,43 @@ fn sync_name<R: Files<File = File>>(rt: &R, path: &str) -> io::Result<()> {
     File::open(rt, folder_of(path))?.sync_all()
 }
 
-// The bytes ahead of this place, and those behind it, if there are any.
-fn parts_at(bytes: &[u8], place: usize) -> (&[u8], &[u8])
-    ensures { result.0.now ≡ take place bytes.now }
+// The first bytes, so many. Where others stood behind them, a line tells how many.
+fn first_bytes<R: Eprint>(rt: &R, path: &str, mut bytes: Vec<u8>, len: usize) -> Vec<u8>
+    ensures { result.items ≡ take len bytes.items }
 {
-    match bytes.split_at_checked(place) {
-        Some(parts) => parts,
-        None => (bytes, &[]),
+    if len < bytes.len() {
+        let cut = bytes.len() - len;
+        let _ = eprintln!(rt; "bpfjobs: {path}: cut off {cut} bytes of a torn record");
     }
+    bytes.truncate(len);
+    bytes
 }
 
-// The desk that a file's records lead to, and a log that goes on right behind them: what stands
-// there is cut off. Where a snapshot of the desk is much shorter, the log is that instead.
+// The desk that a file's records lead to, and a log that goes on right behind them, with its bytes:
+// what stands there is cut off. Where a snapshot of the desk is much shorter, the log is that instead.
 fn replayed<R: Files<File = File> + Eprint>(
     rt: &R,
     alloc: Global,
     path: &str,
     file: File,
-    bytes: &[u8],
-) -> Result<(FileLog, KeyedDesk), FileFault>
+    bytes: Vec<u8>,
+) -> Result<(FileLog, Vec<u8>, KeyedDesk), FileFault>
     ensures leads { IfOk result (λ opened. (history : List (List ℕ)) × (tail : List ℕ)
-        × DecodesTo bytes.now history tail × IsAfter IsNewKeyed MakesKeyed history opened.1
-        × GoesOnBehind (λ durable. LeadsToHistory IsNewKeyed MakesKeyed AreKeyedAlike durable
-        history opened.1) opened.0) }
-    ensures nothing_waits { IfOk result (λ opened. (file_state opened.0).pending ≡ []) }
+        × DecodesTo bytes.items history tail × IsAfter IsNewKeyed MakesKeyed history opened.2
+        × LeadsToHistory IsNewKeyed MakesKeyed AreKeyedAlike opened.1.items history opened.2) }
+    ensures settled { IfOk result (λ opened. file_state opened.0
+        ≡ record { durable = opened.1.items; pending = [] }) }
 {
-    let Recovered { machine, len } = match open_keyed_journal(alloc, bytes, SEARCH_BUDGET) {
+    let Recovered { machine, len } = match open_keyed_journal(alloc, &bytes, SEARCH_BUDGET) {
         Ok(recovered) => recovered,
-        Err(fault) => return Err(fault_of(alloc, bytes, fault)),
+        Err(fault) => return Err(fault_of(alloc, &bytes, fault)),
     };
-    let (whole, torn) = parts_at(bytes, len);
-    if !torn.is_empty() {
-        let cut = torn.len();
-        let _ = eprintln!(rt; "bpfjobs: {path}: cut off {cut} bytes of a torn record");
-    }
-    let Ok(log) = FileLog::open(alloc, file, whole) else {
+    let whole = first_bytes(rt, path, bytes, len);
+    let Ok(log) = FileLog::open(alloc, file, &whole) else {
         return Err(FileFault::NotCut);
     };
-    let log = compacted(rt, alloc, path, log, &machine, whole)?;
-    Ok((log, machine))
+    let (log, journal) = compacted(rt, alloc, path, log, &machine, whole)?;
+    Ok((log, journal, machine))
 }
 
 // The same from the file's path, for the desk at a place.
@@ -130,11 +131,15 @@ fn opened<R: Files<File = File> + Eprint>(
     sync_name(rt, path)?;
     let mut bytes = Vec::new(alloc);
     file.read_to_end(&mut bytes)?;
-    let (log, desk) = replayed(rt, alloc, path, file, &bytes)?;
-    let Ok(journal) = SharedJournal::new(alloc, place, log) else {
+    let (log, bytes, desk) = replayed(rt, alloc, path, file, bytes)?;
+    let Ok((journal, follower)) = SharedJournal::followed(alloc, place, log, bytes) else {
         return Err(FileFault::NoMemory);
     };
-    Ok(OpenedJournal { journal, desk })
+    Ok(OpenedJournal {
+        journal,
+        follower,
+        desk,
+    })
 }
 
 // Looks whether a file may be gone on with. It is made if it isn't there, and else stays as it is.
@@ -162,59 +167,101 @@ fn examine_all<R: Files<File = File> + Eprint>(
     Ok(())
 }
 
-// The journals in these files, and the desks that their records lead to.
+// The journals in these files, who follows each, and the desks that their records lead to.
 fn open_each<R: Files<File = File> + Eprint>(
     rt: &R,
     alloc: Global,
     paths: &[String],
-) -> Result<(Vec<SharedJournal>, Vec<KeyedDesk>), u8>
+) -> Result<(Vec<SharedJournal>, Vec<JournalFollower>, Vec<KeyedDesk>), u8>
     ensures count { IfOk result (λ opened. (length opened.0.items ≡ length paths.now)
-        × (length opened.1.items ≡ length paths.now)) }
+        × (length opened.2.items ≡ length paths.now)) }
     ensures placed { IfOk result (λ opened. AreAtTheirPlaces opened.0.items) }
+    ensures followed { IfOk result (λ opened. AreFollowed opened.1.items opened.0.items) }
 {
     let mut journals = Vec::new(alloc);
+    let mut followers = Vec::new(alloc);
     let mut desks = Vec::new(alloc);
     for path in paths {
-        let OpenedJournal { journal, desk } = match opened(rt, alloc, journals.len(), path) {
+        let OpenedJournal {
+            journal,
+            follower,
+            desk,
+        } = match opened(rt, alloc, journals.len(), path) {
             Ok(opened) => opened,
             Err(fault) => return Err(refused(rt, path, fault)),
         };
         let Ok(()) = journals.push(journal) else {
             return Err(refused(rt, path, FileFault::NoMemory));
         };
+        let Ok(()) = followers.push(follower) else {
+            return Err(refused(rt, path, FileFault::NoMemory));
+        };
         let Ok(()) = desks.push(desk) else {
             return Err(refused(rt, path, FileFault::NoMemory));
         };
     }
-    Ok((journals, desks))
+    Ok((journals, followers, desks))
 }
 
-// The journals in these files, the first of which is named so.
+// A value that several have.
+fn shared<T: Drop>(alloc: Global, value: T) -> Result<Arc<T, Global>, NoMemory>
+    ensures { IfOk result (λ shared. arc_value shared ≡ value) }
+{
+    match Arc::new(alloc, value) {
+        Ok(shared) => Ok(shared),
+        Err(_) => Err(NoMemory),
+    }
+}
+
+// Journals with what is theirs, and who follows them.
+fn opened_with(
+    alloc: Global,
+    paths: Vec<String>,
+    journals: Vec<SharedJournal>,
+    followers: Vec<JournalFollower>,
+    desks: Vec<KeyedDesk>,
+) -> Result<(OpenedJournals, JournalFollowers), NoMemory>
+    requires paired { length desks.items ≡ length journals.items }
+    requires placed { AreAtTheirPlaces journals.items }
+    requires followed { AreFollowed followers.items journals.items }
+    ensures { IfOk result (λ opened. (arc_value opened.0.journals).items ≡ journals.items) }
+{
+    let paths = shared(alloc, paths)?;
+    let journals = shared(alloc, journals)?;
+    let own = Arc::try_clone(&paths)?;
+    let known = Arc::try_clone(&journals)?;
+    let followers = JournalFollowers::of(own, known, followers);
+    let opened = OpenedJournals {
+        paths,
+        journals,
+        desks,
+    };
+    Ok((opened, followers))
+}
+
+// The journals in these files, the first of which is named so, and who follows them.
 fn open_journals<R: Files<File = File> + Eprint>(
     rt: &R,
     alloc: Global,
     path: &str,
     paths: Vec<String>,
-) -> Result<OpenedJournals, u8>
-    ensures { IfOk result (λ opened. length (arc_value opened.journals).items ≡ length paths.items) }
+) -> Result<(OpenedJournals, JournalFollowers), u8>
+    ensures { IfOk result
+        (λ opened. length (arc_value opened.0.journals).items ≡ length paths.items) }
 {
     if paths.len() > 1 {
         examine_all(rt, alloc, &paths)?;
     }
-    let (journals, desks) = open_each(rt, alloc, &paths)?;
-    match Arc::new(alloc, journals) {
-        Ok(journals) => Ok(OpenedJournals {
-            paths,
-            journals,
-            desks,
-        }),
-        Err(_) => Err(refused(rt, path, FileFault::NoMemory)),
+    let (journals, followers, desks) = open_each(rt, alloc, &paths)?;
+    match opened_with(alloc, paths, journals, followers, desks) {
+        Ok(opened) => Ok(opened),
+        Err(NoMemory) => Err(refused(rt, path, FileFault::NoMemory)),
     }
 }
 
 /// The journals in the files that a server's words name, if they do, and the desks that their records
-/// lead to: first that of everybody else, and then one for each tenant. Where there is no file, it is
-/// made. A torn record at the end of one is cut off, which a line tells.
+/// lead to: first that of everybody else, and then one for each tenant; and who follows them. Where
+/// there is no file, it is made. A torn record at the end of one is cut off, which a line tells.
 ///
 /// Where one of them isn't gone on with, a line names it and tells why, and the program ends with this
 /// status. A file that was there is then as it was, unless one changed while they were opened.
@@ -222,8 +269,8 @@ pub fn open_server_journals<R: Files<File = File> + Eprint>(
     rt: &R,
     alloc: Global,
     server: &Serve,
-) -> Result<Option<OpenedJournals>, u8>
-    ensures { IfOk result (λ opened. IfSome opened (λ some. length (arc_value some.journals).items
+) -> Result<Option<(OpenedJournals, JournalFollowers)>, u8>
+    ensures { IfOk result (λ opened. IfSome opened (λ some. length (arc_value some.0.journals).items
         ≡ length server.now.tenants.tenants.items + 1)) }
 {
     let Some(path) = &server.journal else {

@@ -4,10 +4,12 @@
 
 ghost use Rattle.bpfjobs_cli.specs.Commands.{IsInRange};
 ghost use Rattle.bpfjobs_cli.specs.Performing.{NeedsNoThread};
-ghost use Rattle.std.specs.Prelude.{◌≤◌};
+ghost use Rattle.std.specs.Prelude.{◌≡◌, ◌≤◌, ℕ, IfSome, length};
+ghost use Rattle.std.specs.Arc.{arc_value};
 
 mod journal_compacting;
 mod journal_faults;
+mod journal_following;
 mod journal_opening;
 mod journal_reading;
 mod server_threads;
@@ -18,7 +20,8 @@ mod tenant_file;
 use bpfjobs_cli::{
     Command, CommandRequest, FAILED, UNREAD, perform, perform_alone, print_usage, request, words,
 };
-use journal_opening::open_server_journals;
+use journal_following::JournalFollowers;
+use journal_opening::{OpenedJournals, open_server_journals};
 use journal_reading::print_journal;
 use server_threads::handles_of;
 use serving::serve;
@@ -81,6 +84,19 @@ where
     }
 }
 
+// The journals of a server, and who follows them.
+fn parts_of(
+    opened: Option<(OpenedJournals, JournalFollowers)>,
+) -> (Option<OpenedJournals>, Option<JournalFollowers>)
+    ensures { (many : ℕ) → IfSome opened (λ some. length (arc_value some.0.journals).items ≡ many)
+        → IfSome result.0 (λ some. length (arc_value some.journals).items ≡ many) }
+{
+    match opened {
+        Some((opened, followers)) => (Some(opened), Some(followers)),
+        None => (None, None),
+    }
+}
+
 // The threads beside a server are started here, where the runtime is of a type that may go to them.
 fn main(rt: HostRuntime) -> ExitCode {
     let alloc = rt.alloc();
@@ -110,11 +126,12 @@ fn main(rt: HostRuntime) -> ExitCode {
         Ok(opened) => opened,
         Err(status) => return ExitCode::from(status),
     };
+    let (opened, followers) = parts_of(opened);
     let journals = match &opened {
         Some(opened) => Some(&opened.journals),
         None => None,
     };
-    let Ok((handles, helpers)) = handles_of(&rt, alloc, &server, journals) else {
+    let Ok((handles, helpers)) = handles_of(&rt, alloc, &server, journals, followers) else {
         return ExitCode::from(FAILED);
     };
     for helper in helpers {

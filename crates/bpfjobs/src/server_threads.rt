@@ -1,12 +1,14 @@
 //! The threads beside a server: one that waits for the end of the input, one that looks at the
-//! journals, one that commits them at intervals, and one that writes a log.
+//! journals, one that compacts them, one that commits them at intervals, and one that writes a log.
 
+use crate::journal_following::JournalFollowers;
 use bpfjobs_cli::{Endpoint, JournalSync, Serve};
 use job_server::{StopFlag, address_of};
 use refusal::NoMemory;
 use server_log::{LogLines, ServerLog, open_log, write_lines};
 use shared_journal::{GroupJournal, SharedJournal, commit_each};
 use std::alloc::Global;
+use std::fs::{File, Files};
 use std::io::Read;
 use std::net::{Net, TcpStream};
 use std::os::unix::net::UnixStream;
@@ -115,6 +117,8 @@ pub enum Helper {
     Stops(ListenAddress, Arc<StopFlag, Global>),
     /// It stops the server once one of its journals has failed.
     Watches(ListenAddress, Arc<StopFlag, Global>, Arc<Vec<SharedJournal>, Global>),
+    /// It follows the server's journals, and compacts them.
+    Compacts(JournalFollowers),
     /// It commits the server's journals about once a second, until one fails.
     Commits(Arc<Vec<SharedJournal>, Global>),
     /// It writes the lines of a log on standard error.
@@ -123,12 +127,16 @@ pub enum Helper {
 
 impl Helper {
     /// Does it to its end.
-    pub fn help<R: Input + Eprint + Net + Wait + Clock + AllocGlobal>(self, rt: &R) {
+    pub fn help<R>(self, rt: &R)
+    where
+        R: Input + Eprint + Files<File = File> + Net + Wait + Clock + AllocGlobal,
+    {
         match self {
             Helper::Stops(place, stop) => stop_at_end(rt, &place, &stop),
             Helper::Watches(place, stop, journals) => {
                 stop_at_failure(rt, &place, &stop, &journals);
             }
+            Helper::Compacts(followers) => followers.follow(rt),
             Helper::Commits(journals) => commit_at_intervals(rt, &journals),
             Helper::Writes(lines) => write_lines(rt, rt.alloc(), lines),
         }
@@ -206,8 +214,12 @@ pub fn handles_of<R: Clock>(
     alloc: Global,
     server: &Serve,
     journals: Option<&Arc<Vec<SharedJournal>, Global>>,
+    followers: Option<JournalFollowers>,
 ) -> Result<(ServerHandles, Vec<Helper>), NoMemory> {
     let mut helpers = Vec::new(alloc);
+    if let Some(followers) = followers {
+        helpers.push(Helper::Compacts(followers))?;
+    }
     let mut stops = None;
     if server.options.until_eof || journals.is_some() {
         let stop = Arc::new(alloc, StopFlag::new())?;

@@ -43,7 +43,7 @@ module _ (first : List ℕ) (slots id : ℕ) (me : Me JournalPart JournalView) (
           waiting = kept.waiting;
           log = kept.log;
           each = each_set f f s.views id w kept.each (λ j u apart t. t)
-              (record { number = mine.number; first = mine.first; seen = whole_prefix f.added; own = mine.own; durable = mine.durable; failed = mine.failed; waiting = λ e. let h = mine.waiting e in (h.0, h.1, h.2, h.3, is_word); log = mine.log });
+              (record { number = mine.number; first = mine.first; seen = whole_prefix f.added; own = mine.own; durable = mine.durable; copied = mine.copied; failed = mine.failed; waiting = λ e. let h = mine.waiting e in (h.0, h.1, h.2, h.3, is_word); log = mine.log });
           others = others_set f.added s.views id w kept.others;
         },
         record { all = f.added; seen = mine.seen; durable = durable_added; most = subst (λ (n : ℕ). length f.added ≤ n) (sym is_word) kept.counts.1; is = refl },
@@ -109,7 +109,7 @@ module _ (first : List ℕ) (slots id : ℕ) (me : Me JournalPart JournalView) (
             w,
             keeps,
             tt,
-            same w (record { number = mine.number; first = mine.first; seen = mine.seen; own = mine.own; durable = shorter_prefix me.0.seen f.durable f.added mine.seen durable_added short; failed = mine.failed; waiting = mine.waiting; log = mine.log }),
+            same w (record { number = mine.number; first = mine.first; seen = mine.seen; own = mine.own; durable = shorter_prefix me.0.seen f.durable f.added mine.seen durable_added short; copied = mine.copied; failed = mine.failed; waiting = mine.waiting; log = mine.log }),
             refl,
           )
       by false t = (me.0, keeps, tt, same me.0 mine, refl)
@@ -164,8 +164,8 @@ module _ (first : List ℕ) (slots id : ℕ) (me : Me JournalPart JournalView) (
           waiting = kept.waiting;
           log = kept.log;
           each = each_set f g s.views id w kept.each
-              (λ j u apart t. record { number = t.number; first = t.first; seen = t.seen; own = t.own; durable = t.durable; failed = t.failed; waiting = λ e. absurd (apart ((t.waiting e).1 ∙ sym held.1)); log = t.log })
-              (record { number = mine.number; first = mine.first; seen = mine.seen; own = mine.own; durable = mine.durable; failed = mine.failed; waiting = λ e. (held.0, held.1, held.2, held.3, refl); log = mine.log });
+              (λ j u apart t. record { number = t.number; first = t.first; seen = t.seen; own = t.own; durable = t.durable; copied = t.copied; failed = t.failed; waiting = λ e. absurd (apart ((t.waiting e).1 ∙ sym held.1)); log = t.log })
+              (record { number = mine.number; first = mine.first; seen = mine.seen; own = mine.own; durable = mine.durable; copied = mine.copied; failed = mine.failed; waiting = λ e. (held.0, held.1, held.2, held.3, refl); log = mine.log });
           others = others_set f.added s.views id w kept.others;
         },
         refl,
@@ -194,7 +194,7 @@ module _ (first : List ℕ) (slots id : ℕ) (me : Me JournalPart JournalView) (
           waiting = kept.waiting;
           log = kept.log;
           each = stays first slots id me st f g s at kept.each
-              (λ j u t. record { number = t.number; first = t.first; seen = t.seen; own = t.own; durable = t.durable; failed = t.failed; waiting = t.waiting; log = t.log });
+              (λ j u t. record { number = t.number; first = t.first; seen = t.seen; own = t.own; durable = t.durable; copied = t.copied; failed = t.failed; waiting = t.waiting; log = t.log });
           others = others_set f.added s.views id me.0 kept.others;
         },
         refl,

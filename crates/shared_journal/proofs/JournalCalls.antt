@@ -1,5 +1,5 @@
 -- What the calls of a journal come to, step by step.
-use Rattle.std.proofs.Common.{◌≡◌, ℕ, true, false, true≢false, ◌+◌, ◌≤◌, List, [], ◌∷◌, ◌++◌, length, Option, Some, None, Result, Ok, Err, refl, sym, ap, ◌∙◌, subst, arith, append_assoc}
+use Rattle.std.proofs.Common.{◌≡◌, ℕ, Bool, true, false, true≢false, ◌+◌, ◌≤◌, List, [], ◌∷◌, ◌++◌, length, Option, Some, None, Result, Ok, Err, refl, sym, ap, ◌∙◌, subst, arith, append_assoc}
 use Rattle.std.specs.Prelude.{OnOk, OnErr}
 use mathlib.Core.List.{IsPrefix}
 use Rattle.atomic_table.specs.Table.{Me, rest}
@@ -12,8 +12,34 @@ use Rattle.shared_journal.specs.declared.journal_part.JournalPart.{JournalPart}
 use Rattle.shared_journal.specs.declared.seat_views.JournalEntry.{JournalEntry}
 use Rattle.shared_journal.specs.declared.seat_views.JournalView.{JournalView}
 use Rattle.shared_journal.specs.JournalHistories.{entries_by, journal_bytes}
-use Rattle.shared_journal.specs.JournalRule.{KeepsDurable, own_entry, with_record, with_each_taken, TakesWaiting, TakesLog, PutsRecord, SeesWaiting, TakesBytes, WritesAll, WritesNone, CommitsAll, CommitsNone, SeesEach}
+use Rattle.shared_journal.specs.JournalRule.{KeepsDurable, AreCopies, HasCopies, own_entry, with_record, with_each_taken, TakesWaiting, TakesLog, PutsRecord, SeesWaiting, TakesBytes, WritesAll, WritesNone, CommitsAll, CommitsNone, SeesEach}
+use Rattle.shared_journal.specs.Standing.{StandForJournal}
 use Rattle.shared_journal.proofs.JournalLists.{whole_prefix, prefix_through, bytes_both}
+use Rattle.shared_journal.proofs.Standings.{stands_with_more}
+
+-- a log that has failed keeps what is durable, whatever was taken
+pub keeps_failed : (first : List ℕ) (taken later written : List JournalEntry) (old new : CommitLog FileLog) → KeepsDurable first taken written old
+    → new.has_failed ≡ true → (file_state new.log).durable ≡ (file_state old.log).durable → KeepsDurable first later written new
+keeps_failed first taken later written old new keeps stopped same =
+    record {
+      bytes = keeps.bytes;
+      stands = keeps.stands;
+      kept = subst (IsPrefix keeps.bytes) (sym same) keeps.kept;
+      all = λ e. absurd (true≢false (sym stopped ∙ e));
+      whole = λ e. absurd (true≢false (sym stopped ∙ e));
+    }
+
+-- a new log, whose bytes stand for the journal's
+pub keeps_new : (first : List ℕ) (taken written : List JournalEntry) (bytes whole : List ℕ) (new : CommitLog FileLog) → StandForJournal bytes whole
+    → first ++ journal_bytes written ≡ whole → file_state new.log ≡ record { durable = bytes; pending = [] } → written ≡ taken → KeepsDurable first taken written new
+keeps_new first taken written bytes whole new stands is state all =
+    record {
+      bytes = bytes;
+      stands = subst (StandForJournal bytes) (sym is) stands;
+      kept = subst (IsPrefix bytes) (sym (ap (λ (s : LogState). s.durable) state)) (whole_prefix bytes);
+      all = λ e. all;
+      whole = λ e. state;
+    }
 
 abbrev pub Held : Type 0
 Held = Me JournalPart JournalView
@@ -26,7 +52,7 @@ abbrev part_or : JournalPart → List (ℕ × JournalPart) → JournalPart
 part_or none_held [] = none_held
 part_or none_held (held ∷ more) = held.1
 
-same_part : (slot : ℕ) (a b : JournalPart) (held more others : List (ℕ × JournalPart)) → held ≡ (slot, a) ∷ more → held ≡ (slot, b) ∷ others → a ≡ b
+pub same_part : (slot : ℕ) (a b : JournalPart) (held more others : List (ℕ × JournalPart)) → held ≡ (slot, a) ∷ more → held ≡ (slot, b) ∷ others → a ≡ b
 same_part slot a b held more others one two = ap (part_or a) (sym one ∙ two)
 
 -- ---- those that wait
@@ -161,19 +187,23 @@ pub keeps_more : (v w : Held) (bytes : List ℕ) (old new : CommitLog FileLog) �
 keeps_more v w bytes old new t keeps goes whole =
     subst (λ (m : Held). KeepsDurable m.0.first m.0.taken m.0.taken new) (sym t.is) now
   where
-    all : (file_state old.log).durable ++ bytes ≡ v.0.first ++ journal_bytes (v.0.taken ++ t.waits)
+    all : (v.0.first ++ journal_bytes v.0.written) ++ bytes ≡ v.0.first ++ journal_bytes (v.0.taken ++ t.waits)
     all =
-        (λ i. (keeps.whole goes i).durable ++ t.are i)
-        ∙ (append_assoc v.0.first (journal_bytes v.0.written) (journal_bytes t.waits)
-        ∙ (ap (λ (l : List JournalEntry). v.0.first ++ (journal_bytes l ++ journal_bytes t.waits)) (keeps.all goes)
-        ∙ ap (λ (l : List ℕ). v.0.first ++ l) (sym (bytes_both v.0.taken t.waits))))
+        append_assoc v.0.first (journal_bytes v.0.written) bytes
+        ∙ ((λ i. v.0.first ++ (journal_bytes (keeps.all goes i) ++ t.are i))
+        ∙ ap (λ (l : List ℕ). v.0.first ++ l) (sym (bytes_both v.0.taken t.waits)))
+
+    state : file_state new.log ≡ record { durable = keeps.bytes ++ bytes; pending = [] }
+    state = whole ∙ ap (λ (s : LogState). record { durable = s.durable ++ bytes; pending = [] }) (keeps.whole goes)
 
     now : KeepsDurable v.0.first (v.0.taken ++ t.waits) (v.0.taken ++ t.waits) new
     now =
         record {
-          kept = subst (λ (l : List ℕ). IsPrefix (v.0.first ++ journal_bytes (v.0.taken ++ t.waits)) l) (sym (ap (λ (s : LogState). s.durable) whole ∙ all)) (whole_prefix (v.0.first ++ journal_bytes (v.0.taken ++ t.waits)));
+          bytes = keeps.bytes ++ bytes;
+          stands = subst (StandForJournal (keeps.bytes ++ bytes)) all (stands_with_more keeps.bytes (v.0.first ++ journal_bytes v.0.written) bytes keeps.stands);
+          kept = subst (λ (l : List ℕ). IsPrefix (keeps.bytes ++ bytes) l) (sym (ap (λ (s : LogState). s.durable) state)) (whole_prefix (keeps.bytes ++ bytes));
           all = λ e. refl;
-          whole = λ e. whole ∙ ap (λ (l : List ℕ). record { durable = l; pending = [] }) all;
+          whole = λ e. state;
         }
 
 -- a log that failed has what it had
@@ -182,18 +212,16 @@ pub keeps_old : (v w : Held) (bytes : List ℕ) (old new : CommitLog FileLog) �
     → KeepsDurable w.0.first w.0.taken w.0.written new
 keeps_old v w bytes old new t keeps stopped same =
     subst (λ (m : Held). KeepsDurable m.0.first m.0.taken m.0.written new) (sym t.is)
-    (record {
-      kept = subst (λ (l : List ℕ). IsPrefix (v.0.first ++ journal_bytes v.0.written) l) (sym same) keeps.kept;
-      all = λ e. absurd (true≢false (sym stopped ∙ e));
-      whole = λ e. absurd (true≢false (sym stopped ∙ e));
-    })
+    (keeps_failed v.0.first v.0.taken (v.0.taken ++ t.waits) v.0.written old new keeps stopped same)
 
 -- a log that differs in its buffer alone
 pub keeps_same : (first : List ℕ) (taken written : List JournalEntry) (old new : CommitLog FileLog) → new.log ≡ old.log → new.has_failed ≡ old.has_failed
     → KeepsDurable first taken written old → KeepsDurable first taken written new
 keeps_same first taken written old new log failed keeps =
     record {
-      kept = subst (λ (l : FileLog). IsPrefix (first ++ journal_bytes written) (file_state l).durable) (sym log) keeps.kept;
+      bytes = keeps.bytes;
+      stands = keeps.stands;
+      kept = subst (λ (l : FileLog). IsPrefix keeps.bytes (file_state l).durable) (sym log) keeps.kept;
       all = λ e. keeps.all (sym failed ∙ e);
       whole = λ e. ap file_state log ∙ keeps.whole (sym failed ∙ e);
     }
@@ -206,21 +234,33 @@ written_ok v w bytes old new t keeps goes state = (
   keeps_more v w bytes old new t keeps goes (state (ap (λ (s : LogState). s.pending) (keeps.whole goes))),
 )
 
+-- what was taken was copied too
+pub copies_more : (v w : Held) (bytes copies more : List ℕ) (old new : Bool) (commits : CommitLog FileLog) → TakesBytes v bytes w → KeepsDurable v.0.first v.0.taken v.0.written commits → commits.has_failed ≡ false
+    → AreCopies v.0.first v.0.written v.0.copied old copies → (new ≡ true → (old ≡ true) × (more ≡ copies ++ bytes))
+    → AreCopies w.0.first w.0.taken w.0.copied new more
+copies_more v w bytes copies more old new commits t keeps goes are put follows =
+    let is = put follows in
+    subst (λ (m : Held). m.0.first ++ journal_bytes m.0.taken ≡ m.0.copied ++ more) (sym t.is)
+    (ap (λ (l : List ℕ). v.0.first ++ l) (bytes_both v.0.taken t.waits)
+    ∙ (sym (λ i. v.0.first ++ (journal_bytes (keeps.all goes i) ++ t.are i))
+    ∙ (sym (append_assoc v.0.first (journal_bytes v.0.written) bytes)
+    ∙ (ap (λ (l : List ℕ). l ++ bytes) (are is.0) ∙ (append_assoc v.0.copied copies bytes ∙ ap (λ (l : List ℕ). v.0.copied ++ l) (sym is.1))))))
+
 pub written_err : (v w : Held) (bytes : List ℕ) (old new : CommitLog FileLog) → TakesBytes v bytes w → KeepsDurable v.0.first v.0.taken v.0.written old
     → new.has_failed ≡ true → (file_state new.log).durable ≡ (file_state old.log).durable
     → WritesNone v w × KeepsDurable w.0.first w.0.taken w.0.written new
 written_err v w bytes old new t keeps stops kept = (taken_for_none v w bytes t, keeps_old v w bytes old new t keeps stops kept)
 
-abbrev pub log_view : JournalView → List JournalEntry → List JournalEntry → JournalView
-log_view v taken written = record v { has_log = true; taken = taken; written = written }
+abbrev pub log_view : JournalView → List JournalEntry → List JournalEntry → List ℕ → JournalView
+log_view v taken written copied = record v { has_log = true; taken = taken; written = written; copied = copied }
 
 pub log_there : (v w : Held) (t : TakesLog v w) → w.1 ≡ (1, t.part) ∷ rest w.1
 log_there v w t = first_held 1 t.part w.1 v.1 (ap (λ (m : Held). m.1) t.is)
 
-pub log_one : (v w x : Held) (t : TakesLog v w) (put : JournalPart) → x ≡ (w.0, (1, put) ∷ rest w.1) → ◌≡◌ {A = Held} x (log_view v.0 t.taken t.written, (1, put) ∷ v.1)
+pub log_one : (v w x : Held) (t : TakesLog v w) (put : JournalPart) → x ≡ (w.0, (1, put) ∷ rest w.1) → ◌≡◌ {A = Held} x (log_view v.0 t.taken t.written t.copied, (1, put) ∷ v.1)
 log_one v w x t put is = is ∙ ap (λ (m : Held). (m.0, (1, put) ∷ rest m.1)) t.is
 
-abbrev some_or : CommitLog FileLog → Option (CommitLog FileLog) → CommitLog FileLog
+abbrev pub some_or : CommitLog FileLog → Option (CommitLog FileLog) → CommitLog FileLog
 some_or other None = other
 some_or other (Some commits) = commits
 
@@ -236,24 +276,47 @@ keeps_taken v w x t put got commits there has is =
     subst (λ (c : CommitLog FileLog). KeepsDurable x.0.first x.0.taken x.0.written c) (sym these)
     (subst (λ (m : Held). KeepsDurable m.0.first m.0.taken m.0.written t.commits) (sym (log_one v w x t put is)) t.keeps)
 
+-- the bytes that came with it are those that weren't given yet
+pub copies_taken : (v w x : Held) (t : TakesLog v w) (put got : JournalPart) → w.1 ≡ (1, got) ∷ rest w.1 → x ≡ (w.0, (1, put) ∷ rest w.1)
+    → AreCopies x.0.first x.0.written x.0.copied got.is_followed got.bytes.items
+copies_taken v w x t put got there is =
+    subst (HasCopies x.0.first x.0.written x.0.copied) (sym (same_part 1 got t.part w.1 (rest w.1) (rest w.1) there (log_there v w t)))
+    (subst (λ (m : Held). HasCopies m.0.first m.0.written m.0.copied t.part) (sym (log_one v w x t put is)) t.copies)
+
 -- the log is put back in its place, and given back
 pub log_back : (x y z : Held) (put : JournalPart) → y.1 ≡ x.1 → ◌≡◌ {A = Held} z (y.0, (1, put) ∷ rest y.1) → ◌≡◌ {A = Held} z (y.0, (1, put) ∷ rest x.1)
 log_back x y z put same is = is ∙ ap (λ (l : List (ℕ × JournalPart)). (y.0, (1, put) ∷ rest l)) same
 
 pub gives_log : (y z : Held) (put : JournalPart) (commits : CommitLog FileLog) → y.0.has_log ≡ true → ◌≡◌ {A = Held} z (y.0, (1, put) ∷ rest y.1) → put.commits ≡ Some commits
-    → KeepsDurable y.0.first y.0.taken y.0.taken commits
-    → (z.0.has_log ≡ true) × ((part : JournalPart) × (c : CommitLog FileLog) × (z.1 ≡ (1, part) ∷ rest z.1) × (part.commits ≡ Some c) × KeepsDurable z.0.first z.0.taken z.0.taken c)
-gives_log y z put commits logging is has keeps = (
+    → KeepsDurable y.0.first y.0.taken y.0.taken commits → HasCopies y.0.first y.0.taken y.0.copied put
+    → (z.0.has_log ≡ true) × ((part : JournalPart) × (c : CommitLog FileLog) × (z.1 ≡ (1, part) ∷ rest z.1) × (part.commits ≡ Some c) × KeepsDurable z.0.first z.0.taken z.0.taken c
+    × HasCopies z.0.first z.0.taken z.0.copied part)
+gives_log y z put commits logging is has keeps copies = (
   ap (λ (m : Held). m.0.has_log) is ∙ logging,
-  (put, commits, first_held 1 put z.1 (rest y.1) (ap (λ (m : Held). m.1) is), has, subst (λ (m : Held). KeepsDurable m.0.first m.0.taken m.0.taken commits) (sym is) keeps),
+  (
+    put,
+    commits,
+    first_held 1 put z.1 (rest y.1) (ap (λ (m : Held). m.1) is),
+    has,
+    subst (λ (m : Held). KeepsDurable m.0.first m.0.taken m.0.taken commits) (sym is) keeps,
+    subst (λ (m : Held). HasCopies m.0.first m.0.taken m.0.copied put) (sym is) copies,
+  ),
 )
 
 pub gives_log_up : (y z : Held) (put : JournalPart) (commits : CommitLog FileLog) → y.0.has_log ≡ true → ◌≡◌ {A = Held} z (y.0, (1, put) ∷ rest y.1) → put.commits ≡ Some commits
-    → KeepsDurable y.0.first y.0.taken y.0.written commits
-    → (z.0.has_log ≡ true) × ((part : JournalPart) × (c : CommitLog FileLog) × (z.1 ≡ (1, part) ∷ rest z.1) × (part.commits ≡ Some c) × KeepsDurable z.0.first z.0.taken z.0.written c)
-gives_log_up y z put commits logging is has keeps = (
+    → KeepsDurable y.0.first y.0.taken y.0.written commits → HasCopies y.0.first y.0.written y.0.copied put
+    → (z.0.has_log ≡ true) × ((part : JournalPart) × (c : CommitLog FileLog) × (z.1 ≡ (1, part) ∷ rest z.1) × (part.commits ≡ Some c) × KeepsDurable z.0.first z.0.taken z.0.written c
+    × HasCopies z.0.first z.0.written z.0.copied part)
+gives_log_up y z put commits logging is has keeps copies = (
   ap (λ (m : Held). m.0.has_log) is ∙ logging,
-  (put, commits, first_held 1 put z.1 (rest y.1) (ap (λ (m : Held). m.1) is), has, subst (λ (m : Held). KeepsDurable m.0.first m.0.taken m.0.written commits) (sym is) keeps),
+  (
+    put,
+    commits,
+    first_held 1 put z.1 (rest y.1) (ap (λ (m : Held). m.1) is),
+    has,
+    subst (λ (m : Held). KeepsDurable m.0.first m.0.taken m.0.written commits) (sym is) keeps,
+    subst (λ (m : Held). HasCopies m.0.first m.0.written m.0.copied put) (sym is) copies,
+  ),
 )
 
 -- all that it saw was durable
@@ -266,6 +329,7 @@ commits_seen u v w n free away sees is =
       taken = u.0.taken;
       waits = u.0.waits;
       written = u.0.written;
+      copied = u.0.copied;
       seen = sees.seen;
       durable = sees.durable;
       is = is ∙ (ap seen_durable sees.is
@@ -275,7 +339,7 @@ commits_seen u v w n free away sees is =
 pub commits_all : (u v w x y z a : Held) (n : ℕ) (sees : SeesEach u n v) (t : TakesLog v w) (spare put : JournalPart) → x ≡ (w.0, (1, spare) ∷ rest w.1) → (all : WritesAll x y) → ◌≡◌ {A = Held} z (y.0, (1, put) ∷ rest y.1)
     → ◌≡◌ {A = Held} a (record z.0 { has_log = false; durable = z.0.taken }, rest z.1) → CommitsAll u a
 commits_all u v w x y z a n sees t spare put is all back given =
-    let here : ◌≡◌ {A = Held} x (log_view v.0 t.taken t.written, (1, spare) ∷ v.1) = log_one v w x t spare is in
+    let here : ◌≡◌ {A = Held} x (log_view v.0 t.taken t.written t.copied, (1, spare) ∷ v.1) = log_one v w x t spare is in
     let settled : Held → Held = λ m. (record m.0 { has_log = false; durable = m.0.taken }, rest m.1) in
     let replaced : Held → Held = λ m. (m.0, (1, put) ∷ rest m.1) in
     let written : Held → Held = λ m. (with_each_taken (record m.0 { has_waiting = true; count = length (m.0.taken ++ all.waits); waits = all.waits }), m.1) in
@@ -288,16 +352,17 @@ commits_all u v w x y z a n sees t spare put is all back given =
       taken = t.taken ++ all.waits;
       waits = all.waits;
       written = t.written;
+      copied = t.copied;
       seen = prefix_through u.0.seen sees.all (t.taken ++ all.waits) sees.seen all_seen;
       durable = prefix_through u.0.durable sees.all (t.taken ++ all.waits) sees.durable all_seen;
       is = given ∙ (ap settled (back ∙ ap replaced (all.is ∙ ap written here))
-          ∙ ap (λ (m : Held). (record m.0 { has_waiting = false; has_log = false; count = length (t.taken ++ all.waits); seen = t.taken ++ all.waits; durable = t.taken ++ all.waits; taken = t.taken ++ all.waits; waits = all.waits; written = t.written }, m.1)) sees.is);
+          ∙ ap (λ (m : Held). (record m.0 { has_waiting = false; has_log = false; count = length (t.taken ++ all.waits); seen = t.taken ++ all.waits; durable = t.taken ++ all.waits; taken = t.taken ++ all.waits; waits = all.waits; written = t.written; copied = t.copied }, m.1)) sees.is);
     }
 
 pub commits_none : (u v w x y z a : Held) (n : ℕ) (sees : SeesEach u n v) (t : TakesLog v w) (spare put : JournalPart) → x ≡ (w.0, (1, spare) ∷ rest w.1) → (old : WritesNone x y) → ◌≡◌ {A = Held} z (y.0, (1, put) ∷ rest y.1)
     → ◌≡◌ {A = Held} a (record z.0 { has_log = false }, rest z.1) → CommitsNone u a
 commits_none u v w x y z a n sees t spare put is old back given =
-    let here : ◌≡◌ {A = Held} x (log_view v.0 t.taken t.written, (1, spare) ∷ v.1) = log_one v w x t spare is in
+    let here : ◌≡◌ {A = Held} x (log_view v.0 t.taken t.written t.copied, (1, spare) ∷ v.1) = log_one v w x t spare is in
     let settled : Held → Held = λ m. (record m.0 { has_log = false }, rest m.1) in
     let replaced : Held → Held = λ m. (m.0, (1, put) ∷ rest m.1) in
     let written : Held → Held = λ m. (record m.0 { has_waiting = false; count = old.count; seen = old.seen; taken = old.taken; waits = old.waits }, m.1) in
@@ -308,9 +373,10 @@ commits_none u v w x y z a n sees t spare put is old back given =
       taken = old.taken;
       waits = old.waits;
       written = t.written;
+      copied = t.copied;
       later = prefix_through u.0.seen sees.all old.seen sees.seen (subst (λ (m : Held). IsPrefix m.0.seen old.seen) sees.is later);
       is = given ∙ (ap settled (back ∙ ap replaced (old.is ∙ ap written here))
-          ∙ ap (λ (m : Held). (record m.0 { has_waiting = false; has_log = false; count = old.count; seen = old.seen; taken = old.taken; waits = old.waits; written = t.written }, m.1)) sees.is);
+          ∙ ap (λ (m : Held). (record m.0 { has_waiting = false; has_log = false; count = old.count; seen = old.seen; taken = old.taken; waits = old.waits; written = t.written; copied = t.copied }, m.1)) sees.is);
     }
 
 -- what the seat saw before it takes the log
@@ -323,7 +389,7 @@ seen_most u v n sees = subst (λ (m : Held). length m.0.seen ≤ m.0.count) (sym
 pub seen_free : (u v w x : Held) (n : ℕ) (sees : SeesEach u n v) (t : TakesLog v w) (put : JournalPart) → u.0.has_waiting ≡ false → x ≡ (w.0, (1, put) ∷ rest w.1)
     → (x.0.has_log ≡ true) × (x.0.has_waiting ≡ false)
 seen_free u v w x n sees t put free is =
-    let here : ◌≡◌ {A = Held} x (log_view v.0 t.taken t.written, (1, put) ∷ v.1) = log_one v w x t put is in (
+    let here : ◌≡◌ {A = Held} x (log_view v.0 t.taken t.written t.copied, (1, put) ∷ v.1) = log_one v w x t put is in (
       ap (λ (m : Held). m.0.has_log) here,
       ap (λ (m : Held). m.0.has_waiting) here ∙ (ap (λ (m : Held). m.0.has_waiting) sees.is ∙ free),
     )

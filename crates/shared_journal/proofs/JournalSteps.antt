@@ -16,7 +16,9 @@ use Rattle.shared_journal.specs.declared.journal_part.JournalPart.{JournalPart}
 use Rattle.shared_journal.specs.declared.seat_views.JournalEntry.{JournalEntry}
 use Rattle.shared_journal.specs.declared.seat_views.JournalView.{JournalView}
 use Rattle.shared_journal.specs.JournalHistories.{entries_by, journal_bytes}
-use Rattle.shared_journal.specs.JournalRule.{JournalFacts, KeepsDurable, AreCounted, words_of, FitsJournal, IsJournal, journal_founder, own_entry, with_record, with_each_taken, held_bytes, Watches, TakesWaiting, TriesWaiting, StaysAsItIs, ReturnsWaiting, AddsRecord, TakesEach, TakesLog, TriesLog, SettlesLog, ReturnsLog, FailsIt, LooksAtIt, SeesEach, LooksAtEach, LooksAtDurable, FindsCount, CountsRecords}
+use Rattle.shared_journal.specs.JournalRule.{JournalFacts, KeepsDurable, HasCopies, AreCounted, words_of, FitsJournal, IsJournal, journal_founder, own_entry, with_record, with_each_taken, held_bytes, Watches, TakesWaiting, TriesWaiting, StaysAsItIs, ReturnsWaiting, AddsRecord, TakesEach, TakesLog, TriesLog, SettlesLog, ReturnsLog, CopiesLog, with_copies, FailsIt, LooksAtIt, SeesEach, LooksAtEach, LooksAtDurable, FindsCount, CountsRecords}
+use Rattle.shared_journal.specs.Standing.{StandForJournal}
+use Rattle.shared_journal.proofs.Standings.{stands_as_it_is}
 use Rattle.shared_journal.proofs.JournalLists.{whole_prefix, prefix_through, longer_prefix, same_rest, entries_own, entries_other, bytes_more, nothing_behind, set_length, more_length, there_below, at_end_or, prefix_length, shorter_prefix}
 
 off : false ≡ true → ⊥
@@ -97,8 +99,9 @@ marked_held n held e = held (marked_free n e)
 -- the table at the start
 pub begins_journal : (first : List ℕ) (waiting log : JournalPart) (commits : CommitLog FileLog) (homes : List (Option JournalPart)) → homes ≡ some waiting ∷ some log ∷ []
     → waiting.bytes.items ≡ [] → log.commits ≡ Some commits → commits.has_failed ≡ false → file_state commits.log ≡ record { durable = first; pending = [] }
+    → (log.is_followed ≡ true → log.bytes.items ≡ first)
     → IsJournal first (0 ∷ 0 ∷ 0 ∷ 0 ∷ 0 ∷ []) homes (journal_founder first ∷ [])
-begins_journal first waiting log commits homes homes_are none_wait has goes whole =
+begins_journal first waiting log commits homes homes_are none_wait has goes whole copies =
     record {
       facts = facts;
       begun = refl;
@@ -116,22 +119,25 @@ begins_journal first waiting log commits homes homes_are none_wait has goes whol
         refl,
         has,
         record {
-          kept = ([], nothing_behind (first ++ []) ∙ (nothing_behind first ∙ sym (ap (λ s. s.durable) whole)));
+          bytes = first;
+          stands = subst (StandForJournal first) (sym (nothing_behind first)) (stands_as_it_is first);
+          kept = ([], nothing_behind first ∙ sym (ap (λ s. s.durable) whole));
           all = λ f. refl;
-          whole = λ f. whole ∙ ap (λ (l : List ℕ). record { durable = l; pending = [] }) (sym (nothing_behind first));
+          whole = λ f. whole;
         },
+        λ e. nothing_behind first ∙ sym (copies e),
       );
       each = one;
       others = λ n le. refl;
     }
   where
     facts : JournalFacts
-    facts = record { waiting_word = 0; log_word = 0; failed_word = 0; added_word = 0; durable_word = 0; waiting_at = 0; log_at = 0; first = first; added = []; taken = []; waits = []; durable = [] }
+    facts = record { waiting_word = 0; log_word = 0; failed_word = 0; added_word = 0; durable_word = 0; waiting_at = 0; log_at = 0; first = first; added = []; taken = []; waits = []; durable = []; copied = [] }
 
     one : (j : ℕ) (v : JournalView) → get_elem? (journal_founder first ∷ []) j ≡ some v → FitsJournal facts j v
     one zero v e =
         subst (FitsJournal facts 0) (some-injective _ _ e)
-        (record { number = refl; first = refl; seen = whole_prefix []; own = refl; durable = whole_prefix []; failed = λ t. absurd (off t); waiting = λ t. absurd (off t); log = λ t. absurd (off t) })
+        (record { number = refl; first = refl; seen = whole_prefix []; own = refl; durable = whole_prefix []; copied = λ e. refl; failed = λ t. absurd (off t); waiting = λ t. absurd (off t); log = λ t. absurd (off t) })
     one (suc j) v e = absurd (some-ne-none v (sym e))
 
 -- a new seat has seen the whole history, and put nothing in
@@ -139,8 +145,8 @@ pub watches : (slots : ℕ) (first : List ℕ) (st : Step JournalPart) (v : Me J
     → Enters (Journaling first) slots 2 (λ n w. Watches st v n (w, []))
 watches slots first st v begins s kept homes fits =
     let f = kept.facts in
-    let w : JournalView = record { number = length s.views; first = f.first; seen = f.added; own = []; durable = f.durable; is_failed = false; has_waiting = false; has_log = false; count = 0; taken = []; waits = []; written = [] } in
-    let mine : FitsJournal f (length s.views) w = record { number = refl; first = refl; seen = whole_prefix f.added; own = kept.others (length s.views) (omega arith); durable = whole_prefix f.durable; failed = λ t. absurd (off t); waiting = λ t. absurd (off t); log = λ t. absurd (off t) } in (
+    let w : JournalView = record { number = length s.views; first = f.first; seen = f.added; own = []; durable = f.durable; is_failed = false; has_waiting = false; has_log = false; count = 0; taken = []; waits = []; written = []; copied = f.copied } in
+    let mine : FitsJournal f (length s.views) w = record { number = refl; first = refl; seen = whole_prefix f.added; own = kept.others (length s.views) (omega arith); durable = whole_prefix f.durable; copied = λ e. refl; failed = λ t. absurd (off t); waiting = λ t. absurd (off t); log = λ t. absurd (off t) } in (
       w,
       record {
         facts = f;
@@ -194,8 +200,8 @@ module _ (first : List ℕ) (slots id : ℕ) (me : Me JournalPart JournalView) (
           waiting = kept.waiting;
           log = kept.log;
           each = each_set f g s.views id w kept.each
-              (λ j u apart t. record { number = t.number; first = t.first; seen = t.seen; own = t.own; durable = t.durable; failed = λ e. one_is_some; waiting = t.waiting; log = t.log })
-              (record { number = mine.number; first = mine.first; seen = mine.seen; own = mine.own; durable = mine.durable; failed = λ e. one_is_some; waiting = mine.waiting; log = mine.log });
+              (λ j u apart t. record { number = t.number; first = t.first; seen = t.seen; own = t.own; durable = t.durable; copied = t.copied; failed = λ e. one_is_some; waiting = t.waiting; log = t.log })
+              (record { number = mine.number; first = mine.first; seen = mine.seen; own = mine.own; durable = mine.durable; copied = mine.copied; failed = λ e. one_is_some; waiting = mine.waiting; log = mine.log });
           others = others_set f.added s.views id w kept.others;
         },
         refl,
@@ -243,7 +249,7 @@ module _ (first : List ℕ) (slots id : ℕ) (me : Me JournalPart JournalView) (
             w,
             keeps,
             tt,
-            same w (record { number = mine.number; first = mine.first; seen = mine.seen; own = mine.own; durable = mine.durable; failed = λ e z. some_found (is_word ∙ z); waiting = mine.waiting; log = mine.log }),
+            same w (record { number = mine.number; first = mine.first; seen = mine.seen; own = mine.own; durable = mine.durable; copied = mine.copied; failed = λ e z. some_found (is_word ∙ z); waiting = mine.waiting; log = mine.log }),
             refl,
           )
         where
@@ -271,7 +277,7 @@ module _ (first : List ℕ) (slots id : ℕ) (me : Me JournalPart JournalView) (
           waiting = λ e. kept.waiting (marked_free f.waiting_word e);
           log = kept.log;
           each = stays f g s at kept.each
-              (λ j u t. record { number = t.number; first = t.first; seen = t.seen; own = t.own; durable = t.durable; failed = t.failed; waiting = λ e. (marked_held f.waiting_word (t.waiting e).0, (t.waiting e).1, (t.waiting e).2, (t.waiting e).3, (t.waiting e).4); log = t.log });
+              (λ j u t. record { number = t.number; first = t.first; seen = t.seen; own = t.own; durable = t.durable; copied = t.copied; failed = t.failed; waiting = λ e. (marked_held f.waiting_word (t.waiting e).0, (t.waiting e).1, (t.waiting e).2, (t.waiting e).3, (t.waiting e).4); log = t.log });
           others = others_set f.added s.views id me.0 kept.others;
         },
         refl,
@@ -297,7 +303,7 @@ module _ (first : List ℕ) (slots id : ℕ) (me : Me JournalPart JournalView) (
           waiting = kept.waiting;
           log = λ e. kept.log (marked_free f.log_word e);
           each = stays f g s at kept.each
-              (λ j u t. record { number = t.number; first = t.first; seen = t.seen; own = t.own; durable = t.durable; failed = t.failed; waiting = t.waiting; log = λ e. (marked_held f.log_word (t.log e).0, (t.log e).1, (t.log e).2, (t.log e).3) });
+              (λ j u t. record { number = t.number; first = t.first; seen = t.seen; own = t.own; durable = t.durable; copied = t.copied; failed = t.failed; waiting = t.waiting; log = λ e. (marked_held f.log_word (t.log e).0, (t.log e).1, (t.log e).2, (t.log e).3) });
           others = others_set f.added s.views id me.0 kept.others;
         },
         refl,
@@ -346,8 +352,8 @@ module _ (first : List ℕ) (slots id : ℕ) (me : Me JournalPart JournalView) (
               waiting = λ e. absurd (some_held e);
               log = kept.log;
               each = each_set f g s.views id w kept.each
-                  (λ j u apart t. record { number = t.number; first = t.first; seen = t.seen; own = t.own; durable = t.durable; failed = t.failed; waiting = λ e. absurd ((t.waiting e).0 free); log = t.log })
-                  (record { number = mine.number; first = mine.first; seen = mine.seen; own = mine.own; durable = mine.durable; failed = mine.failed; waiting = λ e. (some_held, refl, refl, refl, counted); log = λ e. let l = mine.log e in (l.0, l.1, refl, l.3) });
+                  (λ j u apart t. record { number = t.number; first = t.first; seen = t.seen; own = t.own; durable = t.durable; copied = t.copied; failed = t.failed; waiting = λ e. absurd ((t.waiting e).0 free); log = t.log })
+                  (record { number = mine.number; first = mine.first; seen = mine.seen; own = mine.own; durable = mine.durable; copied = mine.copied; failed = mine.failed; waiting = λ e. (some_held, refl, refl, refl, counted); log = λ e. let l = mine.log e in (l.0, l.1, refl, l.3) });
               others = others_set f.added s.views id w kept.others;
             },
             record {
@@ -408,7 +414,7 @@ module _ (first : List ℕ) (slots id : ℕ) (me : Me JournalPart JournalView) (
           let home = kept.log free in
           let part : JournalPart = home.0 in
           let g : JournalFacts = record f { log_word = held; log_at = id } in
-          let w : JournalView = record me.0 { has_log = true; taken = f.taken; written = f.durable } in (
+          let w : JournalView = record me.0 { has_log = true; taken = f.taken; written = f.durable; copied = f.copied } in (
             w,
             takes 1 part,
             ap (λ (l : List (Option JournalPart)). get_elem? l 1) kept.homes_are ∙ ap some home.2,
@@ -425,8 +431,8 @@ module _ (first : List ℕ) (slots id : ℕ) (me : Me JournalPart JournalView) (
               waiting = kept.waiting;
               log = λ e. absurd (some_held e);
               each = each_set f g s.views id w kept.each
-                  (λ j u apart t. record { number = t.number; first = t.first; seen = t.seen; own = t.own; durable = t.durable; failed = t.failed; waiting = t.waiting; log = λ e. absurd ((t.log e).0 free) })
-                  (record { number = mine.number; first = mine.first; seen = mine.seen; own = mine.own; durable = mine.durable; failed = mine.failed; waiting = λ e. let l = mine.waiting e in (l.0, l.1, refl, l.3, l.4); log = λ e. (some_held, refl, refl, refl) });
+                  (λ j u apart t. record { number = t.number; first = t.first; seen = t.seen; own = t.own; durable = t.durable; copied = t.copied; failed = t.failed; waiting = t.waiting; log = λ e. absurd ((t.log e).0 free) })
+                  (record { number = mine.number; first = mine.first; seen = mine.seen; own = mine.own; durable = mine.durable; copied = λ e. refl; failed = mine.failed; waiting = λ e. let l = mine.waiting e in (l.0, l.1, refl, l.3, l.4); log = λ e. (some_held, refl, refl, refl) });
               others = others_set f.added s.views id w kept.others;
             },
             record {
@@ -434,9 +440,12 @@ module _ (first : List ℕ) (slots id : ℕ) (me : Me JournalPart JournalView) (
               commits = home.1;
               taken = f.taken;
               written = f.durable;
+              copied = f.copied;
               has = home.3;
               keeps = subst (λ (l : List ℕ). KeepsDurable l f.taken f.durable home.1) (sym mine.first) home.4;
+              copies = subst (λ (l : List ℕ). HasCopies l f.durable f.copied part) (sym mine.first) home.5;
               durable = mine.durable;
+              follows = λ e. sym (mine.copied (inl (sym mine.number ∙ e)));
               is = refl;
             },
           )
@@ -489,8 +498,8 @@ module _ (first : List ℕ) (slots id : ℕ) (me : Me JournalPart JournalView) (
           waiting = λ e. (part, refl, bytes ∙ ap journal_bytes held.3);
           log = kept.log;
           each = each_set f g s.views id w kept.each
-              (λ j u apart t. record { number = t.number; first = t.first; seen = t.seen; own = t.own; durable = t.durable; failed = t.failed; waiting = λ e. absurd (apart ((t.waiting e).1 ∙ sym held.1)); log = t.log })
-              (record { number = mine.number; first = mine.first; seen = mine.seen; own = mine.own; durable = mine.durable; failed = mine.failed; waiting = λ e. absurd (off e); log = mine.log });
+              (λ j u apart t. record { number = t.number; first = t.first; seen = t.seen; own = t.own; durable = t.durable; copied = t.copied; failed = t.failed; waiting = λ e. absurd (apart ((t.waiting e).1 ∙ sym held.1)); log = t.log })
+              (record { number = mine.number; first = mine.first; seen = mine.seen; own = mine.own; durable = mine.durable; copied = mine.copied; failed = mine.failed; waiting = λ e. absurd (off e); log = mine.log });
           others = others_set f.added s.views id w kept.others;
         },
         refl,
@@ -532,6 +541,7 @@ module _ (first : List ℕ) (slots id : ℕ) (me : Me JournalPart JournalView) (
                 seen = longer_prefix u.seen f.added (e ∷ []) t.seen;
                 own = entries_other j f.added e (λ same. apart (sym same ∙ mine.number)) ∙ t.own;
                 durable = t.durable;
+                copied = t.copied;
                 failed = t.failed;
                 waiting = λ z. absurd (apart ((t.waiting z).1 ∙ sym held.1));
                 log = t.log;
@@ -542,6 +552,7 @@ module _ (first : List ℕ) (slots id : ℕ) (me : Me JournalPart JournalView) (
                 seen = subst (λ (l : List JournalEntry). IsPrefix (l ++ e ∷ []) (f.added ++ e ∷ [])) (sym all) (whole_prefix (f.added ++ e ∷ []));
                 own = own;
                 durable = mine.durable;
+                copied = mine.copied;
                 failed = mine.failed;
                 waiting = λ z. absurd (off z);
                 log = mine.log;
@@ -592,13 +603,14 @@ module _ (first : List ℕ) (slots id : ℕ) (me : Me JournalPart JournalView) (
           waiting = λ z. (part, refl, none_left);
           log = λ z. absurd (log.0 z);
           each = each_set f g s.views id w kept.each
-              (λ j u apart t. record { number = t.number; first = t.first; seen = t.seen; own = t.own; durable = t.durable; failed = t.failed; waiting = λ z. absurd (apart ((t.waiting z).1 ∙ sym held.1)); log = λ z. absurd (apart ((t.log z).1 ∙ sym log.1)) })
+              (λ j u apart t. record { number = t.number; first = t.first; seen = t.seen; own = t.own; durable = t.durable; copied = t.copied; failed = t.failed; waiting = λ z. absurd (apart ((t.waiting z).1 ∙ sym held.1)); log = λ z. absurd (apart ((t.log z).1 ∙ sym log.1)) })
               (record {
                 number = mine.number;
                 first = mine.first;
                 seen = subst (λ (l : List JournalEntry). IsPrefix l f.added) (kept.split ∙ sym both) (whole_prefix f.added);
                 own = mine.own;
                 durable = mine.durable;
+                copied = mine.copied;
                 failed = mine.failed;
                 waiting = λ z. absurd (off z);
                 log = λ z. (log.0, log.1, both, log.3);
@@ -610,9 +622,9 @@ module _ (first : List ℕ) (slots id : ℕ) (me : Me JournalPart JournalView) (
 
   -- the log is given back, with all of it durable
   pub settles_log : (part : JournalPart) (commits : CommitLog FileLog) → me.0.has_log ≡ true → me.1 ≡ (1, part) ∷ rest me.1 → part.commits ≡ Some commits
-      → KeepsDurable me.0.first me.0.taken me.0.taken commits
+      → KeepsDurable me.0.first me.0.taken me.0.taken commits → HasCopies me.0.first me.0.taken me.0.copied part
       → Allows (Journaling first) slots id me 1 (λ n. 0) (SettlesLog st me)
-  settles_log part commits logging has is_some whole s kept homes at fits =
+  settles_log part commits logging has is_some whole copies s kept homes at fits =
       let f = kept.facts in
       let g : JournalFacts = record f { log_word = 0; durable = f.taken } in
       let mine = kept.each id me.0 at in
@@ -632,15 +644,23 @@ module _ (first : List ℕ) (slots id : ℕ) (me : Me JournalPart JournalView) (
           synced = whole_prefix f.taken;
           counts = (kept.counts.0, kept.counts.1, (let c = kept.counts.2 in let l = prefix_length f.durable f.taken kept.synced in omega (arith, c, l)));
           waiting = kept.waiting;
-          log = λ z. (part, commits, refl, is_some, subst (λ (x : List ℕ × List JournalEntry). KeepsDurable x.0 x.1 x.1 commits) (λ i. (mine.first i, log.2 i)) whole);
+          log = λ z. (
+            part,
+            commits,
+            refl,
+            is_some,
+            subst (λ (x : List ℕ × List JournalEntry). KeepsDurable x.0 x.1 x.1 commits) (λ i. (mine.first i, log.2 i)) whole,
+            subst (λ (x : List ℕ × (List JournalEntry × List ℕ)). HasCopies x.0 x.1.0 x.1.1 part) (λ i. (mine.first i, (log.2 i, mine.copied (inr logging) i))) copies,
+          );
           each = each_set f g s.views id w kept.each
-              (λ j u apart t. record { number = t.number; first = t.first; seen = t.seen; own = t.own; durable = prefix_through u.durable f.durable f.taken t.durable kept.synced; failed = t.failed; waiting = t.waiting; log = λ z. absurd (apart ((t.log z).1 ∙ sym log.1)) })
+              (λ j u apart t. record { number = t.number; first = t.first; seen = t.seen; own = t.own; durable = prefix_through u.durable f.durable f.taken t.durable kept.synced; copied = t.copied; failed = t.failed; waiting = t.waiting; log = λ z. absurd (apart ((t.log z).1 ∙ sym log.1)) })
               (record {
                 number = mine.number;
                 first = mine.first;
                 seen = mine.seen;
                 own = mine.own;
                 durable = subst (λ (l : List JournalEntry). IsPrefix l f.taken) (sym log.2) (whole_prefix f.taken);
+                copied = λ e. mine.copied (inr logging);
                 failed = mine.failed;
                 waiting = mine.waiting;
                 log = λ z. absurd (off z);
@@ -652,9 +672,9 @@ module _ (first : List ℕ) (slots id : ℕ) (me : Me JournalPart JournalView) (
 
   -- the log is given back, with no more durable than before
   pub returns_log : (part : JournalPart) (commits : CommitLog FileLog) → me.0.has_log ≡ true → me.1 ≡ (1, part) ∷ rest me.1 → part.commits ≡ Some commits
-      → KeepsDurable me.0.first me.0.taken me.0.written commits
+      → KeepsDurable me.0.first me.0.taken me.0.written commits → HasCopies me.0.first me.0.written me.0.copied part
       → Allows (Journaling first) slots id me 1 (λ n. 0) (ReturnsLog st me)
-  returns_log part commits logging has is_some whole s kept homes at fits =
+  returns_log part commits logging has is_some whole copies s kept homes at fits =
       let f = kept.facts in
       let g : JournalFacts = record f { log_word = 0 } in
       let mine = kept.each id me.0 at in
@@ -674,14 +694,71 @@ module _ (first : List ℕ) (slots id : ℕ) (me : Me JournalPart JournalView) (
           synced = kept.synced;
           counts = kept.counts;
           waiting = kept.waiting;
-          log = λ z. (part, commits, refl, is_some, subst (λ (x : List ℕ × (List JournalEntry × List JournalEntry)). KeepsDurable x.0 x.1.0 x.1.1 commits) (λ i. (mine.first i, (log.2 i, log.3 i))) whole);
+          log = λ z. (
+            part,
+            commits,
+            refl,
+            is_some,
+            subst (λ (x : List ℕ × (List JournalEntry × List JournalEntry)). KeepsDurable x.0 x.1.0 x.1.1 commits) (λ i. (mine.first i, (log.2 i, log.3 i))) whole,
+            subst (λ (x : List ℕ × (List JournalEntry × List ℕ)). HasCopies x.0 x.1.0 x.1.1 part) (λ i. (mine.first i, (log.3 i, mine.copied (inr logging) i))) copies,
+          );
           each = each_set f g s.views id w kept.each
-              (λ j u apart t. record { number = t.number; first = t.first; seen = t.seen; own = t.own; durable = t.durable; failed = t.failed; waiting = t.waiting; log = λ z. absurd (apart ((t.log z).1 ∙ sym log.1)) })
-              (record { number = mine.number; first = mine.first; seen = mine.seen; own = mine.own; durable = mine.durable; failed = mine.failed; waiting = mine.waiting; log = λ z. absurd (off z) });
+              (λ j u apart t. record { number = t.number; first = t.first; seen = t.seen; own = t.own; durable = t.durable; copied = t.copied; failed = t.failed; waiting = t.waiting; log = λ z. absurd (apart ((t.log z).1 ∙ sym log.1)) })
+              (record { number = mine.number; first = mine.first; seen = mine.seen; own = mine.own; durable = mine.durable; copied = λ e. mine.copied (inr logging); failed = mine.failed; waiting = mine.waiting; log = λ z. absurd (off z) });
           others = others_set f.added s.views id w kept.others;
         },
         refl,
       )
+
+  -- the log is given back, and all that is durable was given to who follows
+  pub copies_log : (part : JournalPart) (commits : CommitLog FileLog) → me.0.number ≡ 0 → me.0.has_log ≡ true → me.1 ≡ (1, part) ∷ rest me.1 → part.commits ≡ Some commits
+      → KeepsDurable me.0.first me.0.taken me.0.written commits → part.bytes.items ≡ []
+      → Allows (Journaling first) slots id me 1 (λ n. 0) (CopiesLog st me)
+  copies_log part commits follows logging has is_some whole none_left s kept homes at fits =
+      let f = kept.facts in
+      let g : JournalFacts = record f { log_word = 0; copied = f.first ++ journal_bytes f.durable } in
+      let mine = kept.each id me.0 at in
+      let log = mine.log logging in
+      let w : JournalView = with_copies me.0 in
+      let given : me.0.first ++ journal_bytes me.0.written ≡ f.first ++ journal_bytes f.durable = λ i. mine.first i ++ journal_bytes (log.3 i) in (
+        w,
+        gives,
+        tt,
+        record {
+          facts = g;
+          begun = kept.begun;
+          words_are = set_second s.words f 0 kept.words_are;
+          waiting_home = kept.waiting_home;
+          log_home = some part;
+          homes_are = back_second s.homes kept.waiting_home kept.log_home me.1 part kept.homes_are has;
+          split = kept.split;
+          synced = kept.synced;
+          counts = kept.counts;
+          waiting = kept.waiting;
+          log = λ z. (
+            part,
+            commits,
+            refl,
+            is_some,
+            subst (λ (x : List ℕ × (List JournalEntry × List JournalEntry)). KeepsDurable x.0 x.1.0 x.1.1 commits) (λ i. (mine.first i, (log.2 i, log.3 i))) whole,
+            λ e. sym (ap (λ (l : List ℕ). (f.first ++ journal_bytes f.durable) ++ l) none_left ∙ nothing_behind (f.first ++ journal_bytes f.durable)),
+          );
+          each = each_set f g s.views id w kept.each
+              (λ j u apart t. record { number = t.number; first = t.first; seen = t.seen; own = t.own; durable = t.durable; copied = λ e. absurd (another j u apart t e); failed = t.failed; waiting = t.waiting; log = λ z. absurd (apart ((t.log z).1 ∙ sym log.1)) })
+              (record { number = mine.number; first = mine.first; seen = mine.seen; own = mine.own; durable = mine.durable; copied = λ e. given; failed = mine.failed; waiting = mine.waiting; log = λ z. absurd (off z) });
+          others = others_set f.added s.views id w kept.others;
+        },
+        refl,
+      )
+    where
+      -- no other seat follows, or holds the log
+      another : (j : ℕ) (u : JournalView) → j ≢ id → FitsJournal kept.facts j u → (j ≡ 0) ⊎ (u.has_log ≡ true) → ⊥
+      another j u apart t e =
+          let mine = kept.each id me.0 at in
+          ⊎_elim
+          (λ (first_seat : j ≡ 0). apart (first_seat ∙ (sym follows ∙ mine.number)))
+          (λ (z : u.has_log ≡ true). apart ((t.log z).1 ∙ sym (mine.log logging).1))
+          e
 
   pub marks : (word : ℕ) → (word ≡ 0) ⊎ (word ≡ 1) → Allows (Journaling first) slots id me word (λ n. either (n == 1) 2 n) (StaysAsItIs st me)
   marks word (inl is) = subst (λ (k : ℕ). Allows (Journaling first) slots id me k (λ n. either (n == 1) 2 n) (StaysAsItIs st me)) (sym is) marks_waiting

@@ -29,6 +29,13 @@ pub record JournalKnowledge : Type 0 where
   pub durable : List JournalEntry
   pub has_failed : Bool
 
+-- The knowledge of who follows a journal: the bytes of it that were given so far, and whether it has
+-- failed.
+pub record FollowerKnowledge : Type 0 where
+  pub journal : JournalName
+  pub copied : List ℕ
+  pub has_failed : Bool
+
 -- a record, put in from this seat
 abbrev pub entry_by : JournalKnowledge → List ℕ → JournalEntry
 entry_by v bytes = record { by = v.number; bytes = bytes }

@@ -1,5 +1,5 @@
 -- The rule of the table of a journal's history, and what its steps do.
-use Rattle.std.specs.Prelude.{◌≡◌, ◌≢◌, ◌≤◌, ◌+◌, ◌==◌, leb, ℕ, true, false, List, [], ◌∷◌, ◌++◌, length, Some, MatchBool}
+use Rattle.std.specs.Prelude.{◌≡◌, ◌≢◌, ◌⊎◌, ◌≤◌, ◌+◌, ◌==◌, leb, ℕ, Bool, true, false, List, [], ◌∷◌, ◌++◌, length, Some, MatchBool}
 use mathlib.Core.Option.{Option, some}
 use mathlib.Core.List.{IsPrefix}
 use lib.ListN.{get_elem?}
@@ -11,6 +11,7 @@ use Rattle.shared_journal.specs.declared.journal_part.JournalPart.{JournalPart}
 use Rattle.shared_journal.specs.declared.seat_views.JournalEntry.{JournalEntry}
 use Rattle.shared_journal.specs.declared.seat_views.JournalView.{JournalView}
 use Rattle.shared_journal.specs.JournalHistories.{entries_by, journal_bytes}
+use Rattle.shared_journal.specs.Standing.{StandForJournal}
 
 -- a seat that knows of a journal only what its log held at first
 abbrev pub journal_founder : List ℕ → JournalView
@@ -27,6 +28,7 @@ journal_founder first = record {
   taken = [];
   waits = [];
   written = [];
+  copied = [];
 }
 
 -- ---- the rule
@@ -34,7 +36,8 @@ journal_founder first = record {
 -- The five words of the table: of the records that wait, of the log, whether the journal has
 -- failed, how many records were added, and how many are told to be durable. Which seats hold the
 -- two parts, where they are out. What the log held at first. The records that were added: those
--- that were taken to be written, and behind them those that wait. And those that are durable.
+-- that were taken to be written, and behind them those that wait. Those that are durable. And the
+-- bytes that were given to who follows the journal.
 pub record JournalFacts : Type 0 where
   pub waiting_word : ℕ
   pub log_word : ℕ
@@ -48,16 +51,29 @@ pub record JournalFacts : Type 0 where
   pub taken : List JournalEntry
   pub waits : List JournalEntry
   pub durable : List JournalEntry
+  pub copied : List ℕ
 
--- The log's durable bytes begin with those that it held at first and those of the durable records.
--- Unless it has failed, they are just these, nothing else is written, and all that was taken is
--- durable.
+-- The log's durable bytes begin with some that stand for those that it held at first and those of
+-- the durable records. Unless it has failed, they are just these, nothing else is written, and all
+-- that was taken is durable.
 pub record KeepsDurable (first : List ℕ) (taken durable : List JournalEntry)
     (commits : CommitLog FileLog) : Type 0 where
-  pub kept : IsPrefix (first ++ journal_bytes durable) (file_state commits.log).durable
+  pub bytes : List ℕ
+  pub stands : StandForJournal bytes (first ++ journal_bytes durable)
+  pub kept : IsPrefix bytes (file_state commits.log).durable
   pub all : commits.has_failed ≡ false → durable ≡ taken
   pub whole : commits.has_failed ≡ false
-      → file_state commits.log ≡ record { durable = first ++ journal_bytes durable; pending = [] }
+      → file_state commits.log ≡ record { durable = bytes; pending = [] }
+
+-- These are the bytes of the journal that weren't given yet to who follows it, if it is followed.
+abbrev pub AreCopies : List ℕ → List JournalEntry → List ℕ → Bool → List ℕ → Type 0
+AreCopies first durable copied is_followed bytes =
+    is_followed ≡ true → first ++ journal_bytes durable ≡ copied ++ bytes
+
+-- beside the log the part has these
+abbrev pub HasCopies : List ℕ → List JournalEntry → List ℕ → JournalPart → Type 0
+HasCopies first durable copied part =
+    AreCopies first durable copied part.is_followed part.bytes.items
 
 -- the part at home has the bytes of the records that wait
 abbrev pub HasWaiting : List JournalEntry → Option JournalPart → Type 0
@@ -69,6 +85,7 @@ abbrev pub HasLog : JournalFacts → Option JournalPart → Type 0
 HasLog facts home =
     (part : JournalPart) × (commits : CommitLog FileLog) × (home ≡ some part)
     × (part.commits ≡ Some commits) × KeepsDurable facts.first facts.taken facts.durable commits
+    × HasCopies facts.first facts.durable facts.copied part
 
 -- One word counts the records that were added: exactly, where nobody holds those that wait, and
 -- never fewer. The other tells no more of them than are durable.
@@ -97,10 +114,11 @@ pub record FitsJournal (facts : JournalFacts) (seat : ℕ) (v : JournalView) : T
   pub log : v.has_log ≡ true
       → (facts.log_word ≢ 0) × (seat ≡ facts.log_at) × (v.taken ≡ facts.taken)
       × (v.written ≡ facts.durable)
+  pub copied : (seat ≡ 0) ⊎ (v.has_log ≡ true) → v.copied ≡ facts.copied
 
 -- There is one history, of which each seat knows a beginning and its own records. Where the lock
 -- of a part is free, the part is at home, and has what the history says. A seat that isn't there
--- yet has put nothing in.
+-- yet has put nothing in. The first seat is that of who follows the journal.
 pub record IsJournal (first words : List ℕ) (homes : List (Option JournalPart))
     (views : List JournalView) : Type 0 where
   pub facts : JournalFacts
@@ -200,11 +218,14 @@ pub record TakesLog (v w : Me JournalPart JournalView) : Type 0 where
   pub commits : CommitLog FileLog
   pub taken : List JournalEntry
   pub written : List JournalEntry
+  pub copied : List ℕ
   pub has : part.commits ≡ Some commits
   pub keeps : KeepsDurable v.0.first taken written commits
+  pub copies : HasCopies v.0.first written copied part
   pub durable : IsPrefix v.0.durable written
+  pub follows : v.0.number ≡ 0 → copied ≡ v.0.copied
   pub is : w ≡ (
-    record v.0 { has_log = true; taken = taken; written = written },
+    record v.0 { has_log = true; taken = taken; written = written; copied = copied },
     (1, part) ∷ v.1,
   )
 
@@ -219,6 +240,20 @@ SettlesLog s v found w = w ≡ (record v.0 { has_log = false; durable = v.0.take
 -- the log is given back, and no more is durable than before
 abbrev pub ReturnsLog : {S : Type 0} → Step S → Me S JournalView → ℕ → Me S JournalView → Type 0
 ReturnsLog s v found w = w ≡ (record v.0 { has_log = false }, rest v.1)
+
+-- the seat is that of who follows the journal, and holds nothing
+pub record Follows {S : Type 0} (v : Me S JournalView) : Type 0 where
+  pub number : v.0.number ≡ 0
+  pub no_waiting : v.0.has_waiting ≡ false
+  pub no_log : v.0.has_log ≡ false
+  pub none_held : v.1 ≡ []
+
+-- the log is given back, and all that is durable was given to the seat, which follows the journal
+abbrev pub with_copies : JournalView → JournalView
+with_copies v = record v { has_log = false; copied = v.first ++ journal_bytes v.written }
+
+abbrev pub CopiesLog : {S : Type 0} → Step S → Me S JournalView → ℕ → Me S JournalView → Type 0
+CopiesLog s v found w = w ≡ (with_copies v.0, rest v.1)
 
 -- the journal fails
 abbrev pub FailsIt : {S : Type 0} → Step S → Me S JournalView → ℕ → Me S JournalView → Type 0
@@ -347,6 +382,7 @@ pub record CommitsAll (v w : Me JournalPart JournalView) : Type 0 where
   pub taken : List JournalEntry
   pub waits : List JournalEntry
   pub written : List JournalEntry
+  pub copied : List ℕ
   pub seen : IsPrefix v.0.seen all
   pub durable : IsPrefix v.0.durable all
   pub is : w ≡ (
@@ -359,6 +395,7 @@ pub record CommitsAll (v w : Me JournalPart JournalView) : Type 0 where
       taken = taken;
       waits = waits;
       written = written;
+      copied = copied;
     },
     v.1,
   )
@@ -370,6 +407,7 @@ pub record CommitsNone (v w : Me JournalPart JournalView) : Type 0 where
   pub taken : List JournalEntry
   pub waits : List JournalEntry
   pub written : List JournalEntry
+  pub copied : List ℕ
   pub later : IsPrefix v.0.seen seen
   pub is : w ≡ (
     record v.0 {
@@ -380,6 +418,7 @@ pub record CommitsNone (v w : Me JournalPart JournalView) : Type 0 where
       taken = taken;
       waits = waits;
       written = written;
+      copied = copied;
     },
     v.1,
   )

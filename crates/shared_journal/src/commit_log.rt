@@ -39,6 +39,20 @@ impl<L: Log> CommitLog<L> {
         self.has_failed
     }
 
+    /// The log itself.
+    pub fn log(&self) -> &L
+        ensures { result.now ≡ self.now.log }
+    {
+        &self.log
+    }
+
+    /// From now on no call answers `Ok`.
+    pub fn fail(&mut self)
+        ensures { (self.new.log ≡ self.old.log) × (self.new.has_failed ≡ true) }
+    {
+        self.has_failed = true;
+    }
+
     /// Its buffer, without bytes.
     pub fn empty_buffer(&mut self) -> Vec<u8>
         ensures none { result.items ≡ [] }

@@ -17,15 +17,27 @@ use std::alloc::Global;
 use std::sync::Wait;
 
 // A part without anything, which lies in the place of one that is held.
-fn spare(alloc: Global, bytes: Vec<u8>) -> JournalPart
+pub(crate) fn spare(bytes: Vec<u8>) -> JournalPart
     ensures { result.bytes ≡ bytes }
 {
-    let _ = alloc;
     JournalPart {
         bytes,
         commits: None,
         batch: 0,
+        is_followed: false,
     }
+}
+
+// Puts bytes behind those that are for who follows, if anyone does, and there is memory for them.
+// Tells whether they were put there.
+fn copy_behind(copies: &mut Vec<u8>, is_followed: bool, bytes: &[u8]) -> bool
+    ensures { result ≡ true → (is_followed ≡ true)
+        × (copies.new.items ≡ copies.old.items ++ bytes.now) }
+{
+    if !is_followed {
+        return false;
+    }
+    copies.extend_from_slice(bytes).is_ok()
 }
 
 /// Puts a record behind those that wait.
@@ -46,7 +58,7 @@ pub(crate) fn put_record<R: Wait>(
         history.return_waiting(seat);
         return Err(NoMemory);
     }
-    let mut part = history.exchange(seat, WAITING, spare(alloc, Vec::new(alloc)));
+    let mut part = history.exchange(seat, WAITING, spare(Vec::new(alloc)));
     let put = put_behind(&mut part.bytes, bytes);
     let _ = history.exchange(seat, WAITING, part);
     match put {
@@ -75,7 +87,7 @@ pub(crate) fn reserve_room<R: Wait>(
     ensures seen { rule.SeesWaiting seat.old.me seat.new.me }
 {
     let _ = history.take_waiting(rt, seat);
-    let mut part = history.exchange(seat, WAITING, spare(alloc, Vec::new(alloc)));
+    let mut part = history.exchange(seat, WAITING, spare(Vec::new(alloc)));
     let made = make_room(&mut part.bytes, len);
     let _ = history.exchange(seat, WAITING, part);
     history.return_waiting(seat);
@@ -86,7 +98,6 @@ pub(crate) fn reserve_room<R: Wait>(
 // Tells how many records were taken since the journal began.
 fn take_bytes<R: Wait>(
     rt: &R,
-    alloc: Global,
     history: &JournalTable,
     seat: &mut PartSeat,
     buffer: Vec<u8>,
@@ -99,47 +110,54 @@ fn take_bytes<R: Wait>(
     ensures count { result.1 ≡ length seat.new.me.0.taken }
 {
     let count = history.take_waiting(rt, seat);
-    let part = history.exchange(seat, WAITING, spare(alloc, buffer));
+    let part = history.exchange(seat, WAITING, spare(buffer));
     history.return_none(seat);
-    let JournalPart {
-        bytes,
-        commits: _,
-        batch: _,
-    } = part;
+    let JournalPart { bytes, .. } = part;
     (bytes, count)
 }
 
-// Takes all that waits, writes it and syncs, for a seat that holds the log. Tells how many records
-// are durable then.
+// Takes all that waits, writes it and syncs, for a seat that holds the log. Who follows is given it
+// too. Tells how many records are durable then.
 fn write_waiting<R: Wait>(
     rt: &R,
-    alloc: Global,
     history: &JournalTable,
     seat: &mut PartSeat,
     commits: &mut CommitLog<FileLog>,
+    copies: &mut Vec<u8>,
+    is_followed: &mut bool,
 ) -> Result<u64, LogFault>
     requires table { seat.old.table_id ≡ history.now.table }
     requires log { (seat.old.me.0.has_log ≡ true) × (seat.old.me.0.has_waiting ≡ false) }
     requires keeps { rule.KeepsDurable seat.old.me.0.first seat.old.me.0.taken
         seat.old.me.0.written commits.old }
+    requires copies { rule.AreCopies seat.old.me.0.first seat.old.me.0.written
+        seat.old.me.0.copied is_followed.old copies.old.items }
     ensures same { (seat.new.table_id ≡ seat.old.table_id) × (seat.new.id ≡ seat.old.id) }
     ensures held { (seat.new.me.1 ≡ seat.old.me.1) × (seat.new.me.0.has_log ≡ true) }
     ensures count { IfOk result (λ n. n ≡ length seat.new.me.0.taken) }
     ensures ok { OnOk result (rule.WritesAll seat.old.me seat.new.me
         × rule.KeepsDurable seat.new.me.0.first seat.new.me.0.taken seat.new.me.0.taken
         commits.new) }
+    ensures copied { OnOk result (rule.AreCopies seat.new.me.0.first seat.new.me.0.taken
+        seat.new.me.0.copied is_followed.new copies.new.items) }
     ensures err { OnErr result (rule.WritesNone seat.old.me seat.new.me
         × rule.KeepsDurable seat.new.me.0.first seat.new.me.0.taken seat.new.me.0.written
         commits.new) }
+    ensures not_copied { OnErr result (rule.AreCopies seat.new.me.0.first seat.new.me.0.written
+        seat.new.me.0.copied is_followed.new copies.new.items) }
 {
     if commits.has_failed() {
         return Err(LogFault);
     }
     let buffer = commits.empty_buffer();
-    let (bytes, count) = take_bytes(rt, alloc, history, seat, buffer);
+    let (bytes, count) = take_bytes(rt, history, seat, buffer);
+    *is_followed = copy_behind(copies, *is_followed, &bytes);
     match commits.write(bytes) {
         Ok(()) => Ok(count),
-        Err(_) => Err(LogFault),
+        Err(_) => {
+            *is_followed = false;
+            Err(LogFault)
+        }
     }
 }
 
@@ -161,21 +179,30 @@ pub(crate) fn commit_all<R: Wait>(
     if !history.take_log(rt, seat, count) {
         return Ok(());
     }
-    let part = history.exchange(seat, LOG, spare(alloc, Vec::new(alloc)));
+    let part = history.exchange(seat, LOG, spare(Vec::new(alloc)));
     let JournalPart {
-        bytes,
+        mut bytes,
         commits,
         batch,
+        mut is_followed,
     } = part;
     let Some(mut commits) = commits else {
         unreachable!()
     };
     let batch = history.gather(batch);
-    let written = write_waiting(rt, alloc, history, seat, &mut commits);
+    let written = write_waiting(
+        rt,
+        history,
+        seat,
+        &mut commits,
+        &mut bytes,
+        &mut is_followed,
+    );
     let settled = JournalPart {
         bytes,
         commits: Some(commits),
         batch,
+        is_followed,
     };
     let _ = history.exchange(seat, LOG, settled);
     match written {

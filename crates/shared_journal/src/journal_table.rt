@@ -13,7 +13,7 @@ ghost use Rattle.journal_file.specs.declared.file_log.FileLog.{FileLog};
 use crate::commit_log::CommitLog;
 use crate::journal_part::JournalPart;
 use crate::seat_views::{
-    CountLook, CountStep, DurableLook, DurableNote, EachLook, FailingStep, FailureLook,
+    CopyStep, CountLook, CountStep, DurableLook, DurableNote, EachLook, FailingStep, FailureLook,
     JournalView, LogReturn, LogTry, OneJournal, RecordStep, SettlingStep, SleepMark, TakingStep,
     WaitingReturn, WaitingTry, Watching,
 };
@@ -83,6 +83,28 @@ impl Model for JournalSeat {
         × (s.seat.me.1 ≡ []) };
 }
 
+/// The knowledge of who follows a journal: the bytes of it that were given so far, and whether it has
+/// failed. It has no bytes.
+#[derive(Drop)]
+pub(crate) struct FollowerSeat {
+    pub(crate) seat: PartSeat,
+}
+
+impl Model for FollowerSeat {
+    ghost use Rattle.shared_journal.specs.JournalHistories.{FollowerKnowledge};
+    ghost use Rattle.shared_journal.specs.JournalRule.{Follows};
+
+    ghost Value = { FollowerKnowledge };
+
+    ghost view = { λ s. record {
+      journal = record { table = s.seat.table_id; first = s.seat.me.0.first };
+      copied = s.seat.me.0.copied;
+      has_failed = s.seat.me.0.is_failed;
+    } };
+
+    ghost invariant = { λ s. Follows s.seat.me };
+}
+
 /// A journal's table. Contracts see which one it is, and the bytes that its log held at first.
 #[derive(Drop)]
 pub(crate) struct JournalTable {
@@ -106,27 +128,37 @@ impl Model for JournalTable {
 }
 
 impl JournalTable {
-    /// A journal without records, over a log of which all is durable.
-    pub fn new(alloc: Global, log: FileLog) -> Result<JournalTable, NoMemory>
-        requires { (file_state log).pending ≡ [] }
-        ensures { IfOk result (λ t. t.first ≡ (file_state log).durable) }
+    /// A journal without records, over a log of which all is durable, and the seat of who follows it,
+    /// if it is followed: these bytes, which the log has, are the first to be given.
+    pub fn new(
+        alloc: Global,
+        log: FileLog,
+        bytes: Vec<u8>,
+        is_followed: bool,
+    ) -> Result<(JournalTable, FollowerSeat), NoMemory>
+        requires none_pending { (file_state log).pending ≡ [] }
+        requires followed { is_followed ≡ true → bytes.items ≡ (file_state log).durable }
+        ensures first { IfOk result (λ made. made.0.first ≡ (file_state log).durable) }
+        ensures seat { IfOk result (λ made. (made.1.journal ≡ made.0) × (made.1.copied ≡ [])) }
     {
         let key = Snapshot::of(&log);
         let waiting = JournalPart {
             bytes: Vec::new(alloc),
             commits: None,
             batch: 0,
+            is_followed: false,
         };
         let settled = JournalPart {
-            bytes: Vec::new(alloc),
+            bytes,
             commits: Some(CommitLog::new(alloc, log)),
             batch: 0,
+            is_followed,
         };
         let mut parts = Vec::with_capacity(alloc, 2)?;
         parts.push_reserved(waiting);
         parts.push_reserved(settled);
         match Table::new(alloc, &[0, 0, 0, 0, 0], parts, &key) {
-            Ok((table, _)) => Ok(JournalTable { table }),
+            Ok((table, seat)) => Ok((JournalTable { table }, FollowerSeat { seat })),
             Err(_) => Err(NoMemory),
         }
     }
@@ -297,6 +329,21 @@ impl JournalTable {
         unreachable!()
     }
 
+    /// Takes the log, once no other thread holds it, whether it has anything to write or not.
+    pub fn hold_log<R: Wait>(&self, rt: &R, seat: &mut PartSeat)
+        requires { seat.old.table_id ≡ self.now.table }
+        ensures same { (seat.new.table_id ≡ seat.old.table_id) × (seat.new.id ≡ seat.old.id) }
+        ensures taken { rule.TakesLog seat.old.me seat.new.me }
+    {
+        for _ in rt.forever() {
+            if self.try_log(seat) {
+                return;
+            }
+            self.sleep(rt, seat, LOG);
+        }
+        unreachable!()
+    }
+
     /// Waits a moment for as many records that aren't durable as went along last time, so that
     /// those who were answered together are answered together again. Tells how many there are.
     pub fn gather(&self, last: u64) -> u64 {
@@ -309,10 +356,17 @@ impl JournalTable {
         self.count_waiting()
     }
 
+    /// How many records are durable, as far as the words tell.
+    pub fn count_durable(&self) -> u64 {
+        self.table.shared.peek(DURABLE)
+    }
+
     // How many records aren't durable, as far as the words tell.
     fn count_waiting(&self) -> u64 {
-        let durable = self.table.shared.peek(DURABLE);
-        self.table.shared.peek(ADDED).saturating_sub(durable)
+        self.table
+            .shared
+            .peek(ADDED)
+            .saturating_sub(self.count_durable())
     }
 
     /// Counts so many records, for a seat that holds those that wait: no fewer than there are.
@@ -431,7 +485,8 @@ impl JournalTable {
             × (seat.old.me.1 ≡ (1, part) ∷ table.rest seat.old.me.1)
             × (part.commits ≡ Some commits)
             × rule.KeepsDurable seat.old.me.0.first seat.old.me.0.taken seat.old.me.0.taken
-            commits) }
+            commits
+            × rule.HasCopies seat.old.me.0.first seat.old.me.0.taken seat.old.me.0.copied part) }
         requires count { count ≡ length seat.old.me.0.taken }
         ensures same { (seat.new.table_id ≡ seat.old.table_id) × (seat.new.id ≡ seat.old.id) }
         ensures given { seat.new.me
@@ -453,12 +508,33 @@ impl JournalTable {
             × (seat.old.me.1 ≡ (1, part) ∷ table.rest seat.old.me.1)
             × (part.commits ≡ Some commits)
             × rule.KeepsDurable seat.old.me.0.first seat.old.me.0.taken seat.old.me.0.written
-            commits) }
+            commits
+            × rule.HasCopies seat.old.me.0.first seat.old.me.0.written seat.old.me.0.copied part) }
         ensures same { (seat.new.table_id ≡ seat.old.table_id) × (seat.new.id ≡ seat.old.id) }
         ensures given { seat.new.me
             ≡ (record seat.old.me.0 { has_log = false }, table.rest seat.old.me.1) }
     {
         let found = self.table.shared.swap::<LogReturn>(seat, LOG, FREE);
+        self.wake_each(found);
+    }
+
+    /// Gives the log back, all of whose durable bytes were given to the seat, which follows it. No more
+    /// is durable than before.
+    pub fn return_copied(&self, seat: &mut PartSeat)
+        requires table { seat.old.table_id ≡ self.now.table }
+        requires follows { seat.old.me.0.number ≡ 0 }
+        requires held { (seat.old.me.0.has_log ≡ true) × ((part : JournalPart)
+            × (commits : CommitLog FileLog)
+            × (seat.old.me.1 ≡ (1, part) ∷ table.rest seat.old.me.1)
+            × (part.commits ≡ Some commits)
+            × rule.KeepsDurable seat.old.me.0.first seat.old.me.0.taken seat.old.me.0.written
+            commits
+            × (part.bytes.items ≡ [])) }
+        ensures same { (seat.new.table_id ≡ seat.old.table_id) × (seat.new.id ≡ seat.old.id) }
+        ensures given { seat.new.me
+            ≡ (rule.with_copies seat.old.me.0, table.rest seat.old.me.1) }
+    {
+        let found = self.table.shared.swap::<CopyStep>(seat, LOG, FREE);
         self.wake_each(found);
     }
 }

@@ -1,5 +1,6 @@
 //! A journal that the threads of a server share: records wait in memory, and who writes a reply
-//! syncs all that wait first, or they are synced at intervals.
+//! syncs all that wait first, or they are synced at intervals. It may be followed, and be compacted
+//! while it goes on.
 #![tactic(auto)]
 
 // the records that wait, and the log that they go to
@@ -20,6 +21,19 @@ mod shared_journal;
 
 pub use group_journal::GroupJournal;
 pub use shared_journal::SharedJournal;
+
+// who follows it, and puts a snapshot in the place of its first records
+mod followed_desk;
+mod following;
+mod journal_follower;
+mod new_journal;
+
+pub use journal_follower::{Compaction, JournalFollower};
+
+// what its file has
+mod laws;
+
+pub use laws::restarts_go_on;
 
 // when replies go out, and what several journals are asked for that
 mod each_journal;

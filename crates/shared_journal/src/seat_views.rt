@@ -17,7 +17,8 @@ pub struct JournalEntry {
 /// Each seat knows its number, what the log held at first, a beginning of the history, its own
 /// records, a beginning of what is durable, whether the journal failed, and how many records it
 /// counted last. While it holds a part it knows the records that were taken, and those that wait,
-/// or those that the log has.
+/// or those that the log has. Who holds the log or follows the journal knows the bytes that were
+/// given to who follows it.
 pub struct JournalView {
     pub number: u64,
     pub first: LinkedList<u8>,
@@ -31,6 +32,7 @@ pub struct JournalView {
     pub taken: LinkedList<JournalEntry>,
     pub waits: LinkedList<JournalEntry>,
     pub written: LinkedList<JournalEntry>,
+    pub copied: LinkedList<u8>,
 }
 
 /// There is one history of a journal.
@@ -124,6 +126,15 @@ impl Play<JournalPart, JournalView> for LogReturn {
     ghost use Rattle.shared_journal.specs.JournalRule.{ReturnsLog};
 
     ghost then = { ReturnsLog };
+}
+
+/// The log is given back, and all that is durable was given to who follows the journal.
+pub(crate) struct CopyStep;
+
+impl Play<JournalPart, JournalView> for CopyStep {
+    ghost use Rattle.shared_journal.specs.JournalRule.{CopiesLog};
+
+    ghost then = { CopiesLog };
 }
 
 /// The journal fails.

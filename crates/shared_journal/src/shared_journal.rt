@@ -6,6 +6,7 @@ ghost use Rattle.shared_journal.specs.JournalHistories.{HasAddedRecord, HasCommi
 
 use crate::group_journal::GroupJournal;
 use crate::journal_calls::{commit_all, put_record, reserve_room};
+use crate::journal_follower::JournalFollower;
 use crate::journal_table::{JournalSeat, JournalTable};
 use journal::LogFault;
 use journal_file::FileLog;
@@ -41,12 +42,42 @@ impl SharedJournal {
         ensures place { IfOk result (λ journal. journal.place ≡ place) }
         ensures first { IfOk result (λ journal. journal.history.first ≡ (file_state log).durable) }
     {
-        let history = JournalTable::new(alloc, log)?;
+        let (history, _) = JournalTable::new(alloc, log, Vec::new(alloc), false)?;
         Ok(SharedJournal {
             place,
             alloc,
             history,
         })
+    }
+
+    /// The same, with who follows it. The log has these bytes.
+    pub fn followed(
+        alloc: Global,
+        place: usize,
+        log: FileLog,
+        bytes: Vec<u8>,
+    ) -> Result<(SharedJournal, JournalFollower), NoMemory>
+        requires { file_state log ≡ record { durable = bytes.items; pending = [] } }
+        ensures place { IfOk result (λ made. made.0.place ≡ place) }
+        ensures first { IfOk result (λ made. made.0.history.first ≡ bytes.items) }
+        ensures follower { IfOk result (λ made. (made.1.journal ≡ made.0.history)
+            × (made.1.is_lost ≡ false)) }
+    {
+        let len = bytes.len();
+        let (history, seat) = JournalTable::new(alloc, log, bytes, true)?;
+        let journal = SharedJournal {
+            place,
+            alloc,
+            history,
+        };
+        Ok((journal, JournalFollower::new(alloc, seat, len)))
+    }
+
+    // The history of what was added.
+    pub(crate) fn history(&self) -> &JournalTable
+        ensures { result.now ≡ self.now.history }
+    {
+        &self.history
     }
 
     /// A seat for a thread, which has added nothing.

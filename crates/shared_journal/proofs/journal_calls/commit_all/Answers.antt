@@ -12,11 +12,11 @@ exchange-requires-clause-held g c =
 
 pub settle_log-requires-clause-held : goal.settle_log-requires-clause-held
 settle_log-requires-clause-held g c =
-    gives_log c.write_waiting-written.new.seat.me _ _ _ c.write_waiting-written.ensures.held.1 c.exchange.ensures.held refl c.in-Ok.ensures.ok.1
+    gives_log c.write_waiting-written.new.seat.me _ _ _ c.write_waiting-written.ensures.held.1 c.exchange.ensures.held refl c.in-Ok.ensures.ok.1 c.in-Ok.ensures.copied
 
 pub return_log-requires-clause-held : goal.return_log-requires-clause-held
 return_log-requires-clause-held g c =
-    gives_log_up c.write_waiting-written.new.seat.me _ _ _ c.write_waiting-written.ensures.held.1 c.exchange.ensures.held refl c.in-Err.ensures.err.1
+    gives_log_up c.write_waiting-written.new.seat.me _ _ _ c.write_waiting-written.ensures.held.1 c.exchange.ensures.held refl c.in-Err.ensures.err.1 c.in-Err.ensures.not_copied
 
 pub take_log-requires-clause-count : goal.take_log-requires-clause-count
 take_log-requires-clause-count g c = seen_count _ _ _ c.see_each-count.ensures.seen
