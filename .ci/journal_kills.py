@@ -1,7 +1,8 @@
 #!/usr/bin/env python3
 """Kills a server with a journal at random moments under load, and looks each time for all that it told.
 
-    .ci/journal_kills.py [--kills N] [--clients N] [--doors N] [--workers N] [--longest S] [--seed N] [--keep N] [--folder PATH]
+    .ci/journal_kills.py [--kills N] [--clients N] [--doors N] [--workers N] [--longest S] [--seed N] [--keep N]
+                         [--pace N] [--bytes N] [--compacting] [--folder PATH]
     folder=$(./try kept bpfjobs library); BPFJOBS=$folder/bpfjobs TELGOVAN_LIB=$folder .ci/journal_kills.py
 
 It starts `bpfjobs serve --journal` with a socket and a journal in a new folder, has so many tenants grant,
@@ -11,11 +12,19 @@ journal: N times. Now and then it is also killed as it starts. The load and what
 number is told twice, the results are the model's, and each account is what its grants and jobs add up to.
 
 Most rounds look at the jobs that are new and at a hundred old ones, every fiftieth and the last one at all
-of them. A kill leaves what was written to the system: that records are synced ahead of replies is looked
-for by `tests/test_journal.py`, with strace. Status: 0, or 1 where something doesn't hold.
+of them. A client asks for `--pace` changes a second at most (0: as many as it can). A journal of more than
+`--bytes` is left behind once all of it was looked at, and a new one begins.
+
+With `--compacting` jobs have larger buffers, the server keeps 50 reports and the clients have no pace, so
+that journals are compacted while the server runs, and many kills fall into that. It tells how many such
+compactions there were, by the lines on standard error, and how many kills left a snapshot in the making.
+
+A kill leaves what was written to the system: that records are synced ahead of replies is looked for by
+`tests/test_journal.py`, with strace. Status: 0, or 1 where something doesn't hold.
 """
 
 import argparse
+import collections
 import os
 import sys
 import tempfile
@@ -23,12 +32,16 @@ import time
 
 TOP = os.path.dirname(os.path.dirname(os.path.abspath(__file__)))
 sys.path.insert(0, os.path.join(TOP, "tests"))
-from journal_load import DoorLoads, Load, good_jobs  # noqa: E402  (the module stands in the folder that was just added)
-from journals import TenantKeeper  # noqa: E402
+from compactions import CountedKeeper, CountedTenantKeeper  # noqa: E402  (the module stands in the folder that was just added)
+from journal_load import DoorLoads, Load, good_jobs  # noqa: E402
 from programs import assemble  # noqa: E402
 
-# All jobs are looked at each time that so many more kills are over.
+# All jobs are looked at each time that so many more rounds are over.
 WHOLE = 50
+
+# What is told for a word that isn't there, without `--compacting` and with it.
+PLAIN = {"keep": 0, "pace": 6, "longest": 0.5, "more": 0}
+COMPACTING = {"keep": 50, "pace": 0, "longest": 2.0, "more": 4096}
 
 
 def words():
@@ -37,66 +50,106 @@ def words():
     parser.add_argument("--clients", type=int, default=16)
     parser.add_argument("--doors", type=int, default=0, help="how many clients are tenants with doors; 0: one door for all")
     parser.add_argument("--workers", type=int, default=4)
-    parser.add_argument("--longest", type=float, default=0.5)
+    parser.add_argument("--longest", type=float, help="seconds until a kill, at most; 0.5, or 2 with --compacting")
     parser.add_argument("--seed", type=int, default=1)
-    parser.add_argument("--keep", type=int, default=0, help="how many reports the server keeps; 0: all")
+    parser.add_argument("--keep", type=int, help="how many reports the server keeps; 0: all; 50 with --compacting")
+    parser.add_argument("--pace", type=float, help="how many changes a second a client asks for; 0: no bound; 6, or 0 with --compacting")
+    parser.add_argument("--bytes", type=int, default=1_000_000, help="a journal with more is left for a new one")
+    parser.add_argument("--more", type=int, help="so many bytes more in each buffer; 0, or 4096 with --compacting")
+    parser.add_argument("--compacting", action="store_true", help="have journals compacted while the server runs")
     parser.add_argument("--folder", help="the folder for the journal, on the file system that is meant")
-    return parser.parse_args()
+    given = parser.parse_args()
+    for name, value in (COMPACTING if given.compacting else PLAIN).items():
+        if getattr(given, name) is None:
+            setattr(given, name, value)
+    return given
 
 
 class OneDoor:
     """A server with one door, and the load of all its clients."""
 
-    def __init__(self, folder, given, good):
-        load = Load(folder, given.seed, good, given.clients, given.workers, given.keep)
+    def __init__(self, folder, seed, given, good):
+        load = Load(folder, seed, good, given.clients, given.workers, given.keep, keeper=CountedKeeper)
         self.server, self.loads, self.round, self.audit_all = load.server, [load], load.round, load.audit_all
 
     def wrong(self):
         return self.loads[0].wrong
 
 
-def many_doors(folder, given, good):
+def many_doors(folder, seed, given, good):
     """A server with doors for the first tenants, each with a client, and one for all other clients."""
     names = [f"tenant-{number}" for number in range(given.doors)]
     clients = {"all": max(given.clients - given.doors, 1), **dict.fromkeys(names, 1)}
     # the share of each socket has places for all clients of a door, and for one that looks
     places = (given.doors + 2) * (clients["all"] + 2)
-    server = TenantKeeper(folder, *names, clients=places, workers=given.workers)
-    return DoorLoads(server, given.seed, good, clients, given.keep)
+    server = CountedTenantKeeper(folder, *names, clients=places, workers=given.workers)
+    return DoorLoads(server, seed, good, clients, given.keep)
 
 
-def tell(doors, began):
-    def total(name):
-        return sum(getattr(load, name) for load in doors.loads)
+class Kills:
+    """The kills of servers, one journal after the other, and what was found."""
 
-    jobs = sum(len(tenant.jobs) for load in doors.loads for tenant in load.tenants)
-    size = sum(os.path.getsize(load.server.journal) for load in doors.loads)
-    print(f"journal_kills: {doors.loads[0].kills} kills, {total('told')} replies, {jobs} jobs ({total('found')} of them recorded and "
-          f"not told), {total('asked_again')} by a key again, {total('torn')} torn tails, {total('compactions')} compactions, "
-          f"{size} bytes, {time.monotonic() - began:.0f} s", flush=True)
+    def __init__(self, given):
+        self.given, self.began = given, time.monotonic()
+        self.good = good_jobs(assemble, given.seed, 40, given.more)
+        # what came to the journals that were left behind
+        self.past, self.wrong = collections.Counter(), []
+
+    def counts(self, doors):
+        """What came to all journals up to now."""
+        counts = collections.Counter(kills=doors.loads[0].kills, journals=1, live=doors.server.live, within=doors.server.cut_short)
+        for load in doors.loads:
+            counts["jobs"] += sum(len(tenant.jobs) for tenant in load.tenants)
+            for name in ("told", "found", "asked_again", "torn", "compactions"):
+                counts[name] += getattr(load, name)
+        return counts + self.past
+
+    def tell(self, doors):
+        counts = self.counts(doors)
+        counts.update(bytes=size(doors), time=time.monotonic() - self.began)
+        # a count that isn't there is 0
+        print("journal_kills: {kills} kills, {told} replies, {jobs} jobs ({found} of them recorded and not told), {asked_again} by a "
+              "key again, {torn} torn tails, {compactions} compactions ({live} told by servers that ran, {within} kills within one), "
+              "{journals} journals, {bytes} bytes in the last, {time:.0f} s".format_map(counts), flush=True)
+
+    def one_journal(self, folder):
+        """Rounds with one journal, until there are kills enough or the journal is too long."""
+        seed = self.given.seed + 1_000 * self.past["journals"]
+        doors = (many_doors if self.given.doors else OneDoor)(folder, seed, self.given, self.good)
+        try:
+            for load in doors.loads:
+                load.pace = self.given.pace
+            number, is_over = 0, False
+            while not is_over and not doors.wrong():
+                number += 1
+                is_whole = number % WHOLE == 0
+                doors.round(self.given.longest, everything=is_whole)
+                if is_whole:
+                    self.tell(doors)
+                is_over = self.counts(doors)["kills"] >= self.given.kills or is_whole and size(doors) > self.given.bytes
+            if not doors.wrong():
+                doors.audit_all()
+        finally:
+            doors.server.end()
+        self.tell(doors)
+        self.past, self.wrong = self.counts(doors), doors.wrong()
+        for load in doors.loads:
+            load.followed.close()
+
+
+def size(doors):
+    """The bytes of all journals."""
+    return sum(os.path.getsize(load.server.journal) for load in doors.loads)
 
 
 def main():
-    given = words()
-    began = time.monotonic()
-    with tempfile.TemporaryDirectory(dir=given.folder) as folder:
-        good = good_jobs(assemble, given.seed, 40)
-        doors = (many_doors if given.doors else OneDoor)(folder, given, good)
-        try:
-            number = 0
-            while doors.loads[0].kills < given.kills and not doors.wrong():
-                number += 1
-                doors.round(given.longest, everything=number % WHOLE == 0)
-                if number % WHOLE == 0:
-                    tell(doors, began)
-            if not doors.wrong():
-                doors.audit_all()
-            tell(doors, began)
-        finally:
-            doors.server.end()
-    for text in doors.wrong()[:20]:
+    kills = Kills(words())
+    while kills.past["kills"] < kills.given.kills and not kills.wrong:
+        with tempfile.TemporaryDirectory(dir=kills.given.folder) as folder:
+            kills.one_journal(folder)
+    for text in kills.wrong[:20]:
         print(f"journal_kills: {text}", file=sys.stderr)
-    return 1 if doors.wrong() else 0
+    return 1 if kills.wrong else 0
 
 
 if __name__ == "__main__":

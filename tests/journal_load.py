@@ -2,16 +2,19 @@
 
 import hashlib
 import json
-import os
 import random
 import threading
 import time
 
-from journals import Book, Keeper, book_of_changes, change_of, payloads_of
-from trees import Planter, comparable
+from journal_following import Followed
+from journals import Keeper
+from trees import Planter, Tree, comparable
 
 # How many results are asked for at once.
 AT_ONCE = 100
+
+# Of how many old jobs, and of how many old keys, a look asks that doesn't ask of all.
+SAMPLED = 100
 
 # How many requests a tenant sends at once.
 MOST_ASKED = 4
@@ -33,10 +36,18 @@ class Good:
     def is_right(self, reply):
         return bool(reply.get("ok")) and comparable(reply) == self.report
 
+    def is_recorded(self, job):
+        """Whether a record is of this job. That of a job which was over in a snapshot has its credit alone."""
+        return job[1:] == (None, self.asked[1], None) if job[1] is None else job[1:] == self.asked
 
-def good_jobs(assemble, seed, count=10):
+
+def good_jobs(assemble, seed, count=10, more=0):
+    """Jobs with so many bytes more in their buffers."""
     planter = Planter(seed, assemble)
-    return [Good(planter.tree()) for _ in range(count)]
+    trees = [planter.tree() for _ in range(count)]
+    if more:
+        trees = [Tree(tree.programs, tree.credit, tree.buffer + planter.random.randbytes(more)) for tree in trees]
+    return [Good(tree) for tree in trees]
 
 
 class Tenant:
@@ -48,6 +59,10 @@ class Tenant:
         self.granted, self.grants_unsure = 0, []
         # the jobs of which the number was told, those of which it wasn't, and the results that were told
         self.jobs, self.unsure, self.results = {}, [], {}
+        # the numbers of the jobs that no look asked for, the last number of all, and what all jobs spend
+        self.fresh, self.last, self.spends = set(), 0, 0
+        # until when it asks for no change
+        self.rests = 0
         # the numbers by the keys of the jobs that came by one, and submits by a key that no record has
         self.keys, self.lost = {}, []
         self.asked = []
@@ -55,7 +70,7 @@ class Tenant:
     def visit(self, client):
         """Requests until the server is gone."""
         while True:
-            requests = [self.random.choice(self.ACTS)(self) for _ in range(self.random.choice((1, 1, 1, MOST_ASKED)))]
+            requests = [self.act() for _ in range(self.random.choice((1, 1, 1, MOST_ASKED)))]
             requests, self.lost = self.lost or requests, []
             self.asked = list(requests)
             client.stream.sendall(b"".join(framed({**request, "tenant": self.name}) for request, _ in requests))
@@ -74,6 +89,15 @@ class Tenant:
         self.asked = []
 
     # ---- requests
+
+    def act(self):
+        """A request. Of those that change the desk no more come than the load's pace allows."""
+        act, now = self.random.choice(self.ACTS), time.monotonic()
+        if self.load.pace and act.__name__ in ("grant", "submit"):
+            if now < self.rests:
+                return self.result()
+            self.rests = now + self.random.expovariate(self.load.pace)
+        return act(self)
 
     def grant(self):
         return {"op": "grant", "amount": self.random.randint(1, 200_000)}, None
@@ -127,7 +151,13 @@ class Tenant:
 
     def take_number(self, number, good):
         self.expect(self.load.is_new(number), f"the number {number} of a job is that of another one")
+        self.add(number, good)
+
+    def add(self, number, good):
         self.jobs[number] = good
+        self.fresh.add(number)
+        self.last = max(self.last, number)
+        self.spends += good.spent
 
     def take_result(self, number, told):
         """A result is told once the job is over, and then the same for ever."""
@@ -147,15 +177,15 @@ class Tenant:
     def place(self, number, job, key):
         """A job that was recorded as this tenant's, by a key or without one, is one that it asked for."""
         if number in self.jobs:
-            self.expect(self.jobs[number].asked == job[1:], f"job {number} is recorded as another one")
+            self.expect(self.jobs[number].is_recorded(job), f"job {number} is recorded as another one")
             self.expect(key is None or self.keys.get(key) == number, f"job {number} is recorded by the key {key}")
             return
         for request, good in self.unsure:
-            if good.asked == job[1:] and request.get("key") == key:
+            if good.is_recorded(job) and request.get("key") == key:
                 self.unsure.remove((request, good))
                 self.load.is_new(number)
                 self.load.found += 1
-                self.jobs[number] = good
+                self.add(number, good)
                 if key:
                     self.keys[key] = number
                 return
@@ -176,9 +206,13 @@ def keep_busy(loads, seconds, kill):
     for load in loads:
         load.floor = max(load.numbers, default=0)
     threads = [threading.Thread(target=load.work, args=(tenant,)) for load in loads for tenant in load.tenants]
+    until = time.monotonic() + seconds
     for thread in threads:
         thread.start()
-    time.sleep(seconds)
+    while (left := until - time.monotonic()) > 0:
+        for load in loads:
+            load.followed.look()
+        time.sleep(min(left, 0.01))
     kill()
     for thread in threads:
         thread.join()
@@ -187,37 +221,50 @@ def keep_busy(loads, seconds, kill):
 class Load:
     """A server that is killed and started anew, and the tenants that keep it busy."""
 
-    def __init__(self, folder, seed, good, clients=4, workers=2, keep=0, is_keyed=False):
+    def __init__(self, folder, seed, good, clients=4, workers=2, keep=0, is_keyed=False, keeper=Keeper):
         self.seed, self.good, self.random, self.keep = seed, good, random.Random(seed), keep
         # whether keys are heard at the server's door, and how often one was asked for again
         self.is_keyed, self.asked_again = is_keyed, 0
         words = ["--keep", keep] if keep else []
-        self.server = Keeper(folder, *words, clients=clients + 1, workers=workers)
+        self.server = keeper(folder, *words, clients=clients + 1, workers=workers)
         self.tenants = [Tenant(self, number) for number in range(clients)]
-        self.numbers, self.lock = set(), threading.Lock()
+        self.numbers, self.highest, self.lock = set(), 0, threading.Lock()
         self.floor, self.told, self.wrong, self.kills = 0, 0, [], 0
         # how many jobs were found that nobody was told of, and how many kills left a torn record
         self.found, self.torn = 0, 0
-        # the records that were read, of which file and up to which place, and how many jobs they have
-        self.book, self.node, self.at, self.followed = Book(), None, 0, 0
-        # how often a snapshot took the journal's place
-        self.compactions = 0
+        # how many changes of the desk a client asks for in a second at most, or 0, and how many old jobs a look takes
+        self.pace, self.sampled = 0, SAMPLED
+        self.follow_file(self.server.journal)
+
+    def follow_file(self, path):
+        """The records that are read, and of how many jobs and keys they were looked at."""
+        self.followed, self.seen, self.seen_keys = Followed(path, self.expect, self.may_forget), 0, 0
+
+    @property
+    def book(self):
+        return self.followed.book
+
+    @property
+    def compactions(self):
+        """How often a snapshot took the journal's place."""
+        return self.followed.compactions
 
     def is_new(self, number):
         """Whether a number is told for the first time, and is over all that were told by earlier servers."""
         with self.lock:
             is_new = number not in self.numbers and number > self.floor
             self.numbers.add(number)
+            self.highest = max(self.highest, number)
             return is_new
 
     def may_forget(self, number):
         """Whether a job's report may be forgotten: so many others were taken since, or are just being taken."""
-        with self.lock:
-            last = max(self.numbers | {len(self.book.jobs)}) + MOST_ASKED * len(self.tenants)
-            return 0 < self.keep <= last - number
+        last = max(self.highest, len(self.book.jobs)) + MOST_ASKED * len(self.tenants)
+        return 0 < self.keep <= last - number
 
     def end(self):
         self.server.end()
+        self.followed.close()
 
     def round(self, longest, everything=True):
         """Starts the server, looks for what was told, has the tenants at work, and kills it."""
@@ -234,8 +281,7 @@ class Load:
     def kill(self):
         self.server.kill()
         self.kills += 1
-        if os.path.exists(self.server.journal):
-            self.torn += bool(self.catch_up())
+        self.torn += bool(self.catch_up())
 
     def work(self, tenant):
         try:
@@ -249,48 +295,19 @@ class Load:
     # ---- what has to be there
 
     def audit(self, client, everything=True):
-        """Looks for all that was told, in the records and in replies."""
+        """Looks for all that was told, in the records and in replies. It asks for all jobs and keys that are new, and
+        for all old ones or a sample of them."""
         self.follow()
-        self.audit_keys(client)
+        self.audit_keys(client, everything)
         for tenant in self.tenants:
             self.audit_grants(client, tenant)
-            self.audit_results(client, tenant, everything)
+        self.audit_results(client, everything)
+        for tenant in self.tenants:
             self.audit_account(client, tenant)
 
     def catch_up(self):
         """Reads the records that are new, and gives what stands behind them."""
-        with open(self.server.journal, "rb") as file:
-            node = os.fstat(file.fileno()).st_ino
-            is_new, self.node = node != self.node, node
-            self.at = 0 if is_new else self.at
-            file.seek(self.at)
-            data = file.read()
-        payloads, rest = payloads_of(data)
-        self.at += len(data) - len(rest)
-        changes = [change_of(payload) for payload in payloads]
-        if is_new and self.book.granted:
-            self.compare(book_of_changes(changes))
-        else:
-            for change in changes:
-                self.book.add(change)
-        return rest
-
-    def compare(self, new):
-        """A snapshot has taken the journal's place. It says what the records had said, and behind it jobs have ended."""
-        self.compactions += 1
-        old = self.book
-        self.expect(new.granted == old.granted and len(new.jobs) == len(old.jobs), "a snapshot of other accounts or jobs")
-        self.expect(new.remembered() == old.remembered(), "a snapshot of other keys")
-        for number, end in new.ends.items():
-            self.expect(number not in old.gone, f"the forgotten job {number} is in the snapshot")
-            self.expect(old.ends.setdefault(number, end) == end, f"the end of job {number} is another one in the snapshot")
-        for number, job in enumerate(new.jobs, 1):
-            self.expect(number in old.ends or job == old.jobs[number - 1], f"the open job {number} is another one in the snapshot")
-            is_there = job is not None and number not in new.gone
-            self.expect(is_there or number in old.ends and self.may_forget(number), f"job {number} isn't in the snapshot")
-        old.gone |= new.gone
-        for tenant in old.granted:
-            self.expect(new.account(tenant) == old.account(tenant), f"the account of {tenant} in the snapshot")
+        return self.followed.catch_up()
 
     def expect(self, holds, what):
         if not holds:
@@ -300,22 +317,29 @@ class Load:
         """Reads the records that are new, and finds the jobs whose numbers nobody was told."""
         self.catch_up()
         named, keys = {tenant.name: tenant for tenant in self.tenants}, dict(self.book.keyed)
-        for number in range(self.followed + 1, len(self.book.jobs) + 1):
+        for number in range(self.seen + 1, len(self.book.jobs) + 1):
             job = self.book.jobs[number - 1]
-            named[job[0]].place(number, job, keys.get(number))
-        self.followed = len(self.book.jobs)
+            if job is None:
+                # it came and was forgotten between two looks at the file: somebody has to have been told of it
+                self.expect(number in self.numbers, f"job {number} is in no record, and was forgotten")
+            else:
+                named[job[0]].place(number, job, keys.get(number))
+        self.seen = len(self.book.jobs)
         for tenant in self.tenants:
             tenant.lost += [(request, good) for request, good in tenant.unsure if "key" in request]
             tenant.unsure = []
-            lost = [number for number in tenant.jobs if number > self.followed]
-            tenant.expect(not lost, f"the jobs {lost} were told, and are no records")
+            tenant.expect(tenant.last <= self.seen, f"job {tenant.last} was told, and is no record")
 
-    def audit_keys(self, client):
+    def audit_keys(self, client, everything):
         """Each key has one job, which is told again by the last 1,000 of them: a submit that asks for nothing else."""
         numbers = {key: number for tenant in self.tenants for key, number in tenant.keys.items()}
         self.expect(sorted(self.book.keyed) == sorted((number, key) for key, number in numbers.items()),
                     "the keyed jobs of the records aren't those that were told")
         keyed = self.book.remembered()
+        if not everything:
+            old = [one for one in keyed if one[0] <= self.seen_keys]
+            keyed = [one for one in keyed if one[0] > self.seen_keys] + self.random.sample(old, min(len(old), self.sampled))
+        self.seen_keys = self.seen
         for at in range(0, len(keyed), AT_ONCE):
             part = keyed[at : at + AT_ONCE]
             for (number, key), told in zip(part, client.told_all([{"op": "submit", "key": key} for _, key in part])):
@@ -331,26 +355,28 @@ class Load:
         tenant.expect(told == by_records, f"{reply}, and {by_records} by the records")
         tenant.granted, tenant.grants_unsure = told, []
 
-    def audit_results(self, client, tenant, everything):
-        """Each job that wasn't seen over, and of the others all or some."""
-        over = list(tenant.results)
+    def audit_results(self, client, everything):
+        """The results of jobs. Those that run on are waited for."""
+        fresh = [(tenant, number) for tenant in self.tenants for number in sorted(tenant.fresh)]
+        old = [(tenant, number) for tenant in self.tenants for number in tenant.results if number not in tenant.fresh]
         if not everything:
-            over = self.random.sample(over, min(len(over), AT_ONCE))
-        numbers = [number for number in tenant.jobs if number not in tenant.results] + over
-        for at in range(0, len(numbers), AT_ONCE):
-            part = numbers[at : at + AT_ONCE]
-            for number, told in zip(part, client.told_all([{"op": "result", "job": number} for number in part])):
+            old = self.random.sample(old, min(len(old), self.sampled))
+        jobs = old + fresh
+        for at in range(0, len(jobs), AT_ONCE):
+            part = jobs[at : at + AT_ONCE]
+            for (tenant, number), told in zip(part, client.told_all([{"op": "result", "job": number} for _, number in part])):
                 tenant.take_result(number, told)
-        for number in tenant.jobs:
+        for tenant, number in fresh:
             if number not in tenant.results:
                 tenant.take_result(number, client.over(number))
+        for tenant in self.tenants:
+            tenant.fresh.clear()
 
     def audit_account(self, client, tenant):
         """The account of a tenant whose jobs are all over."""
         reply = client.ask({"op": "account", "tenant": tenant.name})
-        spent = sum(good.spent for good in tenant.jobs.values())
-        balance = tenant.granted - spent
-        told = {"balance": balance, "granted": tenant.granted, "ok": True, "open": 0, "spent": spent}
+        balance = tenant.granted - tenant.spends
+        told = {"balance": balance, "granted": tenant.granted, "ok": True, "open": 0, "spent": tenant.spends}
         tenant.expect(reply == told or not tenant.granted, f"{reply}, in place of {told}")
 
     def audit_all(self):
@@ -391,12 +417,15 @@ class DoorLoads:
         self.server.words += ["--keep", keep] if keep else []
         self.server.start()
         self.loads = [self.load(door, seed + place, good, clients[door], keep) for place, door in enumerate(clients)]
+        for load in self.loads:
+            load.sampled = SAMPLED // len(self.loads)
         self.server.kill()
 
     def load(self, door, seed, good, clients, keep):
         """The load of one door. Its tenants are granted their credit ahead of it."""
         load = Load(self.server.folder, seed, good, clients=clients, keep=keep, is_keyed=door != "all")
         load.server = Door(self.server, door)
+        load.follow_file(load.server.journal)
         for number, tenant in enumerate(load.tenants):
             tenant.name = door if door != "all" else f"other-{number}"
             tenant.granted = self.CREDIT

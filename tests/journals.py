@@ -205,14 +205,20 @@ class Book:
         """The keyed jobs that a door remembers, oldest first."""
         return self.keyed[-MOST_KEYS:]
 
+    def accounts(self):
+        """The accounts as a server tells them, by their tenants."""
+        spent = {tenant: self.past.get(tenant, 0) for tenant in self.granted}
+        is_open = dict.fromkeys(self.granted, 0)
+        for number, job in enumerate(self.jobs, 1):
+            if job and number in self.ends:
+                spent[job[0]] += self.ends[number].get("spent", 0)
+            elif job:
+                is_open[job[0]] += job[2]
+        return {tenant: {"balance": given - is_open[tenant] - spent[tenant], "granted": given, "ok": True,
+                         "open": is_open[tenant], "spent": spent[tenant]} for tenant, given in self.granted.items()}
+
     def account(self, tenant):
-        """The account as a server tells it."""
-        mine = [(number, job) for number, job in enumerate(self.jobs, 1) if job and job[0] == tenant]
-        is_open = sum(job[2] for number, job in mine if number not in self.ends)
-        spent = sum(self.ends[number].get("spent", 0) for number, _ in mine if number in self.ends)
-        spent += self.past.get(tenant, 0)
-        given = self.granted[tenant]
-        return {"balance": given - is_open - spent, "granted": given, "ok": True, "open": is_open, "spent": spent}
+        return self.accounts()[tenant]
 
 
 def book_of_changes(changes):
