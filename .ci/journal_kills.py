@@ -2,7 +2,7 @@
 """Kills a server with a journal at random moments under load, and looks each time for all that it told.
 
     .ci/journal_kills.py [--kills N] [--clients N] [--doors N] [--workers N] [--longest S] [--seed N] [--keep N]
-                         [--pace N] [--bytes N] [--compacting] [--folder PATH]
+                         [--pace N] [--jobs N] [--more N] [--compacting] [--folder PATH]
     folder=$(./try kept bpfjobs library); BPFJOBS=$folder/bpfjobs TELGOVAN_LIB=$folder .ci/journal_kills.py
 
 It starts `bpfjobs serve --journal` with a socket and a journal in a new folder, has so many tenants grant,
@@ -12,8 +12,8 @@ journal: N times. Now and then it is also killed as it starts. The load and what
 number is told twice, the results are the model's, and each account is what its grants and jobs add up to.
 
 Most rounds look at the jobs that are new and at a hundred old ones, every fiftieth and the last one at all
-of them. A client asks for `--pace` changes a second at most (0: as many as it can). A journal of more than
-`--bytes` is left behind once all of it was looked at, and a new one begins.
+of them. A client asks for `--pace` changes a second at most (0: as many as it can). A journal of
+more than `--jobs` is left for a new one once all of it was looked at, since each start reads all of it.
 
 With `--compacting` jobs have larger buffers, the server keeps 50 reports and the clients have no pace, so
 that journals are compacted while the server runs, and many kills fall into that. It tells how many such
@@ -39,9 +39,9 @@ from programs import assemble  # noqa: E402
 # All jobs are looked at each time that so many more rounds are over.
 WHOLE = 50
 
-# What is told for a word that isn't there, without `--compacting` and with it.
-PLAIN = {"keep": 0, "pace": 6, "longest": 0.5, "more": 0}
-COMPACTING = {"keep": 50, "pace": 0, "longest": 2.0, "more": 4096}
+# The numbers of words that aren't there, without `--compacting` and with it.
+PLAIN = {"keep": 0, "pace": 6, "longest": 0.5, "more": 0, "jobs": 700}
+COMPACTING = {"keep": 50, "pace": 0, "longest": 2.0, "more": 4096, "jobs": 10_000}
 
 
 def words():
@@ -54,7 +54,7 @@ def words():
     parser.add_argument("--seed", type=int, default=1)
     parser.add_argument("--keep", type=int, help="how many reports the server keeps; 0: all; 50 with --compacting")
     parser.add_argument("--pace", type=float, help="how many changes a second a client asks for; 0: no bound; 6, or 0 with --compacting")
-    parser.add_argument("--bytes", type=int, default=1_000_000, help="a journal with more is left for a new one")
+    parser.add_argument("--jobs", type=int, help="a journal with more is left for a new one; 700, or 10,000 with --compacting")
     parser.add_argument("--more", type=int, help="so many bytes more in each buffer; 0, or 4096 with --compacting")
     parser.add_argument("--compacting", action="store_true", help="have journals compacted while the server runs")
     parser.add_argument("--folder", help="the folder for the journal, on the file system that is meant")
@@ -98,8 +98,8 @@ class Kills:
     def counts(self, doors):
         """What came to all journals up to now."""
         counts = collections.Counter(kills=doors.loads[0].kills, journals=1, live=doors.server.live, within=doors.server.cut_short)
+        counts["jobs"] = jobs(doors)
         for load in doors.loads:
-            counts["jobs"] += sum(len(tenant.jobs) for tenant in load.tenants)
             for name in ("told", "found", "asked_again", "torn", "compactions"):
                 counts[name] += getattr(load, name)
         return counts + self.past
@@ -126,7 +126,7 @@ class Kills:
                 doors.round(self.given.longest, everything=is_whole)
                 if is_whole:
                     self.tell(doors)
-                is_over = self.counts(doors)["kills"] >= self.given.kills or is_whole and size(doors) > self.given.bytes
+                is_over = self.counts(doors)["kills"] >= self.given.kills or jobs(doors) > self.given.jobs
             if not doors.wrong():
                 doors.audit_all()
         finally:
@@ -135,6 +135,11 @@ class Kills:
         self.past, self.wrong = self.counts(doors), doors.wrong()
         for load in doors.loads:
             load.followed.close()
+
+
+def jobs(doors):
+    """How many jobs the clients know of."""
+    return sum(len(tenant.jobs) for load in doors.loads for tenant in load.tenants)
 
 
 def size(doors):

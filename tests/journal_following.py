@@ -12,12 +12,12 @@ class Followed:
     """The records of a journal up to some place, and what they come to.
 
     A file that loses the journal's name to a snapshot is read to its end. The snapshot and the records behind it
-    have to lead to the same, which is told by `expect`. `may_forget` says of a job's number whether its report may be
-    gone."""
+    have to lead to the same, which is told by `expect`. While the server runs a snapshot may also have changes that the
+    old file never got. `may_forget` says of a job's number whether its report may be gone."""
 
     def __init__(self, path, expect, may_forget):
         self.path, self.expect, self.may_forget = path, expect, may_forget
-        self.book, self.compactions = Book(), 0
+        self.book, self.compactions, self.is_running = Book(), 0, False
         # the descriptors of the files that aren't read to their end, and which of them has the name
         self.files, self.node = [], None
         # how far the first of them is read, and the payloads up to there
@@ -76,7 +76,7 @@ class Followed:
         shared = self.shared(before, payloads[first:], changes, first)
         new = book_of_changes(changes[: first + (shared or 0)])
         if shared is None:
-            self.expect(self.is_ahead(new), "a snapshot of other accounts or jobs")
+            self.expect(self.is_running and self.is_ahead(new), "a snapshot of other accounts or jobs")
         self.compare(new, shared is not None)
         return changes[first + (shared or 0) :]
 
@@ -87,14 +87,17 @@ class Followed:
         for count in range(len(later) + 1):
             if count:
                 book.add(changes[first + count - 1])
-            if later[:count] == list(before[len(before) - count :]) and self.is_as_far(book):
+            is_last = not count or later[count - 1] == before[-1]
+            if is_last and later[:count] == list(before[len(before) - count :]) and self.is_as_far(book):
                 found = count
             if len(book.jobs) > len(self.book.jobs) or count == len(before):
                 break
         return found
 
     def is_as_far(self, new):
-        return new.granted == self.book.granted and len(new.jobs) == len(self.book.jobs)
+        old = self.book
+        is_as_long = new.granted == old.granted and len(new.jobs) == len(old.jobs) and set(new.ends) <= set(old.ends)
+        return is_as_long and new.accounts() == old.accounts()
 
     def is_ahead(self, new):
         granted = all(new.granted.get(tenant, 0) >= amount for tenant, amount in self.book.granted.items())
@@ -108,8 +111,8 @@ class Followed:
             self.expect(number not in old.gone, f"the forgotten job {number} is in the snapshot")
             is_known = number in old.ends or not is_exact
             self.expect(is_known and old.ends.setdefault(number, end) == end, f"the end of job {number} is another one in the snapshot")
-        for number, job in enumerate(new.jobs[:known], 1):
-            self.expect(number in old.ends or job == old.jobs[number - 1], f"the open job {number} is another one in the snapshot")
+        for number, (job, before) in enumerate(zip(new.jobs, old.jobs), 1):
+            self.expect(is_alike(job, before, number in old.ends), f"job {number} is another one in the snapshot")
             is_there = job is not None and number not in new.gone
             self.expect(is_there or number in old.ends and self.may_forget(number), f"job {number} isn't in the snapshot")
         old.jobs += new.jobs[known:]
@@ -133,3 +136,10 @@ class Followed:
                 self.book.past[tenant] = self.book.past.get(tenant, 0) + more
                 account = {**account, "spent": account["spent"] + more, "balance": account["balance"] - more}
             self.expect(accounts[tenant] == account, f"the account of {tenant} in the snapshot")
+
+
+def is_alike(job, before, is_over):
+    """Whether a job of a snapshot is one that was recorded before. One that is over may have less there."""
+    if not is_over or job is None or before is None:
+        return is_over or job == before
+    return job == before or job == (before[0], None, before[2], None)

@@ -201,19 +201,27 @@ def framed(request):
     return len(text).to_bytes(4, "big") + text
 
 
-def keep_busy(loads, seconds, kill):
-    """Has the tenants of these loads at work for so many seconds, until their server is killed."""
+def after(seconds):
+    """Whether so many seconds are over, as a call without words."""
+    until = time.monotonic() + seconds
+    return lambda: time.monotonic() >= until
+
+
+def keep_busy(loads, is_over, kill):
+    """Has the tenants of these loads at work until something is over, and kills their server."""
     for load in loads:
         load.floor = max(load.numbers, default=0)
+        load.followed.is_running = True
     threads = [threading.Thread(target=load.work, args=(tenant,)) for load in loads for tenant in load.tenants]
-    until = time.monotonic() + seconds
     for thread in threads:
         thread.start()
-    while (left := until - time.monotonic()) > 0:
+    while not is_over():
         for load in loads:
             load.followed.look()
-        time.sleep(min(left, 0.01))
+        time.sleep(0.005)
     kill()
+    for load in loads:
+        load.followed.is_running = False
     for thread in threads:
         thread.join()
 
@@ -276,7 +284,7 @@ class Load:
             self.server.start()
         with self.server.connect() as client:
             self.audit(client, everything)
-        keep_busy([self], self.random.uniform(0, longest), self.kill)
+        keep_busy([self], after(self.random.uniform(0, longest)), self.kill)
 
     def kill(self):
         self.server.kill()
@@ -438,7 +446,7 @@ class DoorLoads:
         """Starts the server, looks for what was told at each door, has the tenants at work, and kills it."""
         self.server.start()
         self.audit(everything)
-        keep_busy(self.loads, self.random.uniform(0, longest), self.kill)
+        keep_busy(self.loads, after(self.random.uniform(0, longest)), self.kill)
 
     def kill(self):
         """Kills the server. The records are read ahead of its next start, which may put a snapshot in their place."""

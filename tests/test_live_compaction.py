@@ -1,0 +1,591 @@
+"""A journal in whose place a snapshot of its desk comes while the server runs."""
+
+import contextlib
+import json
+import os
+import random
+import re
+import shutil
+import subprocess
+import threading
+import time
+import unittest
+
+from compactions import SNAPSHOT, CountedKeeper, CountedTenantKeeper
+from journal_following import Followed
+from journal_load import DoorLoads, Load, good_jobs, keep_busy
+from journals import book_of, payloads_of, read, record, starts_of
+from programs import BPFJOBS, IS_SLOW, PATIENCE, assemble, submit_text
+from rows import code_of
+from test_clients import spawner
+from test_journal import ACCOUNT, ADD, Room, grant, submit
+from test_keyed_journal import asked_by
+from test_tenant_journal import Room as TenantRoom
+from trees import comparable
+
+MIB = 1 << 20
+
+# A journal of fewer bytes isn't compacted.
+SMALLEST = MIB
+
+# The bytes of a large buffer, and no fewer than what a job with one has in the journal.
+LARGE = 65_536
+OF_A_JOB = 2 * LARGE + 1000
+
+KEPT = 2
+CREDIT = 1_000_000
+
+# No reply waits longer, in seconds.
+LONGEST = 2
+
+
+def large(number, tenant="t", **more):
+    """The request of a job with a large buffer, another one for each number."""
+    text = submit_text([(0, ADD)], 3, random.Random(number).randbytes(LARGE), tenant=tenant)
+    return {**json.loads(text), **more}
+
+
+def long_job(parts):
+    """The request of a job that keeps a worker busy for a second or two, of so many parts, and its credit."""
+    leaf = " / ".join(["mov64 r0, 0"] * 4000 + ["exit"])
+    middle = 100 * 4001 + 100 * 100
+    programs = [spawner(parts, 1, middle), spawner(100, 2, 4001), leaf]
+    credit = parts * (middle + 100)
+    return json.loads(submit_text([(0, code_of(text)) for text in programs], credit, b"")), credit
+
+
+class Filling:
+    """Jobs whose buffers fill a journal, and what they come to. The journal of the desk `t` unless a test says otherwise."""
+
+    def wait_for(self, is_so, what="in time"):
+        until = time.monotonic() + PATIENCE
+        while not is_so():
+            self.assertLess(time.monotonic(), until, what)
+            time.sleep(0.005)
+
+    def fill(self, client, is_over, first=1, path=None, **how):
+        """Has large jobs run, one after the other, until something is over. Gives the number of the job to come."""
+        path, most = path or self.server.journal, 8 * MIB
+        while not is_over():
+            self.assertEqual(client.ask(large(first, **how)), {"job": first, "ok": True})
+            self.assertTrue(json.loads(client.over(first))["ok"])
+            first += 1
+            self.assertLess(os.path.getsize(path), most, "the journal grows, and isn't compacted")
+        return first
+
+    def fill_up(self, client, first=1, **how):
+        """Large jobs until their server has told of a compaction more."""
+        count = len(self.server.compacted())
+        return self.fill(client, lambda: len(self.server.compacted()) > count, first, **how)
+
+    def fill_to(self, client, size, first=1, path=None, **how):
+        """Large jobs until the journal has so many bytes, or would have with one more."""
+        path = path or self.server.journal
+        return self.fill(client, lambda: os.path.getsize(path) > size - OF_A_JOB, first, path=path, **how)
+
+    def told(self, client, jobs, tenant="t"):
+        """What is told of an account and of jobs that are over, byte for byte."""
+        requests = [{"op": op, "job": job} for job in range(1, jobs) for op in ("status", "result")]
+        return client.told_all([{"op": "account", "tenant": tenant}, *requests])
+
+    def check_journal(self, path=None):
+        """`bpfjobs journal` is content with the journal of a server that was killed, and counts its records."""
+        path = path or self.server.journal
+        ran = subprocess.run([BPFJOBS, "journal", path, "--check"], capture_output=True, text=True, timeout=PATIENCE, check=False)
+        self.assertEqual((ran.returncode, ran.stderr), (0, ""), ran.stdout)
+        payloads, _ = payloads_of(read(path))
+        self.assertTrue(ran.stdout.startswith(f"{path}: {len(payloads)} record"), ran.stdout)
+
+    def check_bounded(self, path=None):
+        """No more than a snapshot with as many reports as are kept, and what comes until the next one."""
+        self.assertLess(os.path.getsize(path or self.server.journal), SMALLEST + (KEPT + 2) * OF_A_JOB)
+
+
+class Live(Filling, Room):
+    """A server that keeps two reports, and what it told."""
+
+    def keeper(self, *words, folder=None, keep=KEPT, **how):
+        server = CountedKeeper(folder or self.room, "--keep", keep, *words, **how)
+        self.addCleanup(server.end)
+        return server
+
+    def granted(self, *more, **how):
+        """Starts the server, grants, and gives a connection."""
+        client = self.start(*more, **how)
+        self.assertTrue(client.ask(grant(CREDIT))["ok"])
+        return client
+
+    def beside(self):
+        return self.server.journal + SNAPSHOT
+
+    def check_again(self, told, jobs):
+        """The server is killed. A new one tells the same, and is content with the journal."""
+        self.server.kill()
+        self.check_journal()
+        self.assertEqual(self.told(self.start(), jobs), told)
+
+
+class Compacted(Live):
+    def test_the_line_and_all_that_was_told(self):
+        client = self.granted()
+        before = os.stat(self.server.journal).st_ino
+        jobs = self.fill_up(client)
+        ((path, old, new),) = self.server.compacted()
+        self.assertEqual(path, self.server.journal)
+        self.assertGreaterEqual(old, SMALLEST)
+        self.assertLess(new, old)
+        self.check_bounded()
+        self.assertNotEqual(os.stat(self.server.journal).st_ino, before)
+        self.assertFalse(os.path.exists(self.beside()))
+        self.assertEqual(self.server.not_compacted(), [])
+        self.assertEqual(client.ask({"op": "result", "job": 1}), {"code": 76, "ok": False})
+        account = client.ask(ACCOUNT)
+        spent = 3 * (jobs - 1)
+        self.assertEqual(account, {"balance": CREDIT - spent, "granted": CREDIT, "ok": True, "open": 0, "spent": spent})
+        # the server goes on with the new file
+        self.assertEqual(client.ask(submit()), {"job": jobs, "ok": True})
+        client.over(jobs)
+        self.assertEqual(client.ask(grant(1))["granted"], CREDIT + 1)
+        self.assertEqual(book_of(self.data()).granted, {"t": CREDIT + 1})
+        self.assertEqual(len(book_of(self.data()).jobs), jobs)
+        self.check_again(self.told(client, jobs + 1), jobs + 1)
+
+    def test_again_and_again(self):
+        """Each time that a journal has twice the bytes that it had behind the last one."""
+        client, jobs = self.granted(), 1
+        for count in range(1, 3 if IS_SLOW else 6):
+            jobs = self.fill_up(client, jobs)
+            self.assertEqual(len(self.server.compacted()), count)
+        for _, old, new in self.server.compacted():
+            self.assertGreaterEqual(old, SMALLEST)
+            self.assertLess(new, old)
+        self.check_again(self.told(client, jobs), jobs)
+
+    def test_a_small_journal_stays(self):
+        client = self.granted()
+        self.fill_to(client, SMALLEST)
+        node = os.stat(self.server.journal).st_ino
+        time.sleep(1)
+        self.assertEqual((os.stat(self.server.journal).st_ino, self.server.compacted()), (node, []))
+
+    def test_behind_a_start(self):
+        """What a start reads is compacted once it has doubled."""
+        client = self.granted()
+        jobs = self.fill_to(client, SMALLEST)
+        self.server.kill()
+        client = self.start()
+        size = os.path.getsize(self.server.journal)
+        self.assertLess(2 * size, SMALLEST)
+        jobs = self.fill_up(client, jobs)
+        self.assertGreaterEqual(self.server.compacted()[0][1], max(SMALLEST, 2 * size))
+        self.check_again(self.told(client, jobs), jobs)
+
+    def test_a_second_server_is_refused(self):
+        """The file that took the journal's name is locked."""
+        client = self.granted()
+        jobs = self.fill_up(client)
+        other = self.keeper()
+        other.socket = os.path.join(self.room, "other")
+        self.assertEqual(other.run(), (3, f"bpfjobs: {self.server.journal}: in use by another server\n"))
+        told = self.told(client, jobs)
+        self.server.kill()
+        other.start()
+        self.assertEqual(self.told(self.connect(other), jobs), told)
+
+    def test_an_orderly_end(self):
+        """It ends with 0 behind a compaction, and with all that was told."""
+        client = self.granted("--until-eof", stdin=subprocess.PIPE)
+        jobs = self.fill_up(client)
+        told = self.told(client, jobs)
+        client.stream.close()
+        self.server.process.stdin.close()
+        self.assertEqual(self.server.process.wait(PATIENCE), 0)
+        self.check_journal()
+        self.assertEqual(self.told(self.start(), jobs), told)
+
+    def test_at_intervals(self):
+        """The same where replies wait for no sync."""
+        client = self.granted("--journal-sync", "interval", "--until-eof", stdin=subprocess.PIPE)
+        jobs = self.fill_up(client)
+        self.check_bounded()
+        told = self.told(client, jobs)
+        client.stream.close()
+        self.server.process.stdin.close()
+        self.assertEqual(self.server.process.wait(PATIENCE), 0)
+        self.assertEqual(self.told(self.start(), jobs), told)
+
+
+class Open(Live):
+    """Jobs that are open while a journal is compacted."""
+
+    def test_jobs_that_run_and_that_wait(self):
+        """They stand in the snapshot as they were taken, and begin anew behind a kill."""
+        request, credit = long_job(5 if IS_SLOW else 900)
+        self.server = self.keeper(workers=1)
+        client = self.granted()
+        client.ask(grant(2 * credit))
+        first = self.fill_to(client, SMALLEST)
+        jobs = [request, request, submit(), large(0)]
+        for number, job in enumerate(jobs, first):
+            self.assertEqual(client.ask(job), {"job": number, "ok": True})
+        self.assertGreaterEqual(os.path.getsize(self.server.journal), SMALLEST)
+        self.wait_for(self.server.compacted, "no compaction")
+        self.assertEqual(client.ask({"op": "result", "job": first + 1}), {"code": 77, "ok": False}, "the long jobs are too short")
+        self.server.kill()
+        book = book_of(self.data())
+        self.assertFalse({first + 1, first + 2, first + 3} & set(book.ends))
+        self.assertEqual(book.jobs[first + 1], ("t", [(0, ADD)], 3, b""))
+        self.check_journal()
+        self.server = self.keeper(workers=4, keep=100)
+        self.check_begun_anew(self.start(), first, credit)
+
+    def check_begun_anew(self, client, first, credit):
+        results = [json.loads(client.over(number)) for number in range(first, first + 4)]
+        self.assertEqual(comparable(results[0]), comparable(results[1]))
+        self.assertEqual(results[0]["spent"] + results[0]["returned"], credit)
+        self.assertEqual((results[2]["spent"], results[2]["tasks"][0]["r0"]), (3, 42))
+        self.assertEqual(results[3]["buffer"], large(0)["buffer"])
+        account, spent = client.ask(ACCOUNT), 2 * results[0]["spent"] + 3 * (first + 1)
+        self.assertEqual((account["open"], account["spent"], account["granted"]), (0, spent, CREDIT + 2 * credit))
+
+    def test_little_to_save(self):
+        """A journal of jobs that all wait stays as it is. Once they are over, and it has doubled, it is compacted."""
+        request, credit = long_job(10 if IS_SLOW else 900)
+        self.server = self.keeper(workers=1)
+        client = self.granted()
+        client.ask(grant(credit))
+        self.assertEqual(client.ask(request), {"job": 1, "ok": True})
+        node, last = os.stat(self.server.journal).st_ino, SMALLEST // LARGE + 2
+        for number, told in enumerate(client.told_all([large(job) for job in range(2, last + 1)]), 2):
+            self.assertEqual(json.loads(told), {"job": number, "ok": True})
+        self.assertGreaterEqual(os.path.getsize(self.server.journal), SMALLEST)
+        time.sleep(0.2)
+        self.assertEqual(client.ask({"op": "result", "job": 1}), {"code": 77, "ok": False}, "the long job is too short")
+        self.assertEqual((self.server.compacted(), os.stat(self.server.journal).st_ino), ([], node))
+        client.over(last)
+        jobs = self.fill(client, self.server.compacted, last + 1)
+        self.assertEqual(self.server.not_compacted(), [])
+        self.check_again(self.told(client, jobs), jobs)
+
+
+class Busy(Live):
+    """Compactions while many clients are at work."""
+
+    def test_a_journal_stays_bounded(self):
+        """Under load, with what was told there again behind the kill."""
+        buffer, keep, wanted = 8192, 50, (3 if IS_SLOW else 5) * MIB
+        load = Load(self.room, 5, good_jobs(assemble, 5, more=buffer), keep=keep, keeper=CountedKeeper)
+        self.addCleanup(load.end)
+        until, sizes = time.monotonic() + PATIENCE, []
+
+        def is_over():
+            sizes.append(os.path.getsize(load.server.journal))
+            written = sum(len(tenant.jobs) for tenant in load.tenants) * 2 * buffer
+            return written > wanted or time.monotonic() > until
+
+        load.server.start()
+        with load.server.connect() as client:
+            load.audit(client)
+        keep_busy([load], is_over, load.kill)
+        # twice a snapshot of the reports that are kept and of the jobs that are open, and what came meanwhile
+        self.assertLess(max(sizes), 2 * MIB + MIB // 2)
+        self.assertGreaterEqual(load.server.live, 1)
+        self.check_journal(load.server.journal)
+        load.audit_all()
+        self.assertEqual(load.wrong, [])
+
+    def test_no_reply_is_late(self):
+        """Requests go on. Each is answered, in order, and soon."""
+        client, other = self.granted(), self.connect()
+        is_over, waits, wrong = threading.Event(), [], []
+
+        def ask():
+            while not is_over.is_set():
+                begun = time.monotonic()
+                replies = other.told_all([grant(1, "u"), {"op": "account", "tenant": "u"}])
+                waits.append(time.monotonic() - begun)
+                if [json.loads(reply).get("granted") for reply in replies] != [len(waits), len(waits)]:
+                    wrong.append((len(waits), replies))
+
+        asking = threading.Thread(target=ask)
+        asking.start()
+        try:
+            jobs = self.fill_up(client)
+            jobs = self.fill_up(client, jobs)
+        finally:
+            is_over.set()
+            asking.join()
+        self.assertEqual(wrong, [])
+        self.assertLess(max(waits), LONGEST)
+        self.check_again(self.told(client, jobs), jobs)
+        self.assertEqual(self.connect().ask({"op": "account", "tenant": "u"})["granted"], len(waits))
+
+
+class Doors(Filling, TenantRoom):
+    """The journal of a tenant's desk is compacted by itself."""
+
+    def keeper(self):
+        server = CountedTenantKeeper(self.room, *self.TENANTS)
+        self.addCleanup(server.end)
+        return server
+
+    def test_one_door(self):
+        """The others' journals stay as they are, byte for byte and by their names."""
+        self.server.words += ["--keep", KEPT]
+        self.server.start()
+        for tenant in ("alice", "bob", "t"):
+            self.grant(tenant, CREDIT)
+        client, bob = self.connect("alice"), self.connect("bob")
+        self.job("bob", 1)
+        self.job("t", 1, "all")
+        self.assertEqual(client.ask(large(1, "alice", key="first")), {"job": 1, "ok": True})
+        others = {name: (os.stat(self.server.file(name)).st_ino, self.server.data(name)) for name in ("bob", "all")}
+        jobs = self.fill_up(client, 2, path=self.server.file("alice"), tenant="alice")
+        self.assertEqual([path for path, *_ in self.server.compacted()], [self.server.file("alice")])
+        self.check_bounded(self.server.file("alice"))
+        for name, (node, data) in others.items():
+            self.assertEqual((os.stat(self.server.file(name)).st_ino, self.server.data(name)), (node, data))
+        self.check_goes_on(client, bob, jobs)
+
+    def check_goes_on(self, client, bob, jobs):
+        """Both doors, also behind a kill. A key of a job that is forgotten is told its number."""
+        self.assertEqual(client.ask(asked_by("first")), {"job": 1, "ok": True})
+        self.assertEqual(client.ask(large(jobs, "alice", key="last")), {"job": jobs, "ok": True})
+        client.over(jobs)
+        self.assertEqual(bob.ask(submit(tenant="bob")), {"job": 2, "ok": True})
+        bob.over(2)
+        told = self.told(client, jobs + 1, "alice"), self.told(bob, 3, "bob")
+        self.server.kill()
+        for name in ("alice", "bob", "all"):
+            self.check_journal(self.server.file(name))
+        self.assertEqual(book_of(self.server.data("alice")).keyed, [(1, "first"), (jobs, "last")])
+        self.server.start()
+        client, bob = self.connect("alice"), self.connect("bob")
+        self.assertEqual((self.told(client, jobs + 1, "alice"), self.told(bob, 3, "bob")), told)
+        for key, number in (("first", 1), ("last", jobs)):
+            self.assertEqual(client.ask(asked_by(key)), {"job": number, "ok": True})
+
+    def test_under_load(self):
+        """Both doors and that of everybody else, with keys, behind a kill."""
+        doors = DoorLoads(self.server, 3, good_jobs(assemble, 3, more=16_384), {"all": 2, "alice": 1, "bob": 1}, keep=KEPT)
+        until = time.monotonic() + PATIENCE
+
+        def is_over():
+            self.compacted = {path for path, *_ in self.server.compacted()}
+            return len(self.compacted) == len(doors.loads) or time.monotonic() > until
+
+        self.server.start()
+        keep_busy(doors.loads, is_over, doors.kill)
+        self.assertEqual(self.compacted, {load.server.journal for load in doors.loads})
+        doors.audit_all()
+        self.assertEqual(doors.wrong(), [])
+
+
+class NotCompacted(Live):
+    """Where a snapshot can't be written the server goes on with the long journal, and a line tells so."""
+
+    def test_something_else_has_the_name(self):
+        """Once that is gone, and the journal has doubled, it is compacted."""
+        client = self.granted()
+        os.mkdir(self.beside())
+        jobs = self.fill(client, self.server.not_compacted)
+        self.assertEqual((self.server.not_compacted(), self.server.compacted()), ([self.server.journal], []))
+        size = os.path.getsize(self.server.journal)
+        jobs = self.check_goes_on(client, jobs)
+        os.rmdir(self.beside())
+        jobs = self.fill_up(client, jobs)
+        ((_, old, new),) = self.server.compacted()
+        self.assertGreaterEqual(old, 2 * SMALLEST)
+        self.assertLess(new, size)
+        self.check_again(self.told(client, jobs), jobs)
+
+    def check_goes_on(self, client, jobs):
+        self.assertEqual(client.ask(submit()), {"job": jobs, "ok": True})
+        client.over(jobs)
+        self.assertEqual(client.ask(grant(1))["granted"], CREDIT + 1)
+        self.assertEqual(book_of(self.data()).granted["t"], CREDIT + 1)
+        return jobs + 1
+
+    def test_a_kill_behind_it(self):
+        """The long journal has all that was told."""
+        client = self.granted()
+        os.mkdir(self.beside())
+        jobs = self.check_goes_on(client, self.fill(client, self.server.not_compacted))
+        told = self.told(client, jobs)
+        self.server.kill()
+        self.assertGreaterEqual(os.path.getsize(self.server.journal), SMALLEST)
+        self.assertEqual(len(book_of(self.data()).jobs), jobs - 1)
+        os.rmdir(self.beside())
+        self.assertEqual(self.told(self.start(), jobs), told)
+
+
+@unittest.skipUnless(shutil.which("strace"), "there is no strace")
+class FailingCalls(Live):
+    """A call that a compaction makes fails."""
+
+    WRITES, SYNCS, RENAMES = "write,pwrite64,writev", "fsync,fdatasync", "rename,renameat,renameat2"
+
+    def start_with(self, calls, path, when, *more):
+        """A server of which these calls on a path fail from a number on."""
+        told = os.path.join(self.room, "calls")
+        return self.granted(*more, ahead=["strace", "-f", "-qq", "-o", told, "-P", os.path.realpath(path), "-e", f"trace={calls}",
+                                          "-e", f"inject={calls}:error=EIO:when={when}"])
+
+    def check_kept(self, calls):
+        """A new file that can't be written or synced: the server goes on with the old one."""
+        client = self.start_with(calls, self.beside(), "1+")
+        jobs = self.fill(client, self.server.not_compacted)
+        self.assertEqual((self.server.not_compacted(), self.server.compacted()), ([self.server.journal], []))
+        self.assertEqual(client.ask(submit()), {"job": jobs, "ok": True})
+        client.over(jobs)
+        told = self.told(client, jobs + 1)
+        self.assertGreaterEqual(os.path.getsize(self.server.journal), SMALLEST)
+        self.server.kill()
+        self.assertEqual(self.told(self.start(), jobs + 1), told)
+
+    def test_writes_of_the_new_file(self):
+        self.check_kept(self.WRITES)
+
+    def test_syncs_of_the_new_file(self):
+        self.check_kept(self.SYNCS)
+
+    def check_ends(self, calls, path, when):
+        """It isn't known which file has the name. Nobody is told anything from then on, and all that was told is there."""
+        client = self.start_with(calls, path, when)
+        other, granted, jobs, most = self.connect(), 0, 0, 8 * MIB
+        with contextlib.suppress(ConnectionResetError, BrokenPipeError):
+            while os.path.getsize(self.server.journal) < most:
+                self.assertEqual(client.ask(large(jobs + 1)), {"job": jobs + 1, "ok": True})
+                jobs += 1
+                self.assertEqual(other.ask(grant(1, "u"))["granted"], granted + 1)
+                granted += 1
+                client.over(jobs)
+        self.assertEqual(self.server.process.wait(PATIENCE), 3)
+        for asking in (client, other):
+            with self.assertRaises((ConnectionResetError, BrokenPipeError)):
+                asking.told(ACCOUNT)
+        self.assertTrue(self.server.lines().splitlines()[-1].startswith(f"bpfjobs: {self.server.journal}: "), self.server.lines())
+        self.server.process = None
+        client = self.start()
+        self.assertIn(client.ask({"op": "account", "tenant": "u"}).get("granted", 0), (granted, granted + 1))
+        self.assertIn(client.ask(submit()), [{"job": number, "ok": True} for number in (jobs + 1, jobs + 2)])
+        self.assertEqual(client.ask(ACCOUNT)["granted"], CREDIT)
+
+    def test_the_rename(self):
+        self.check_ends(self.RENAMES, self.beside(), "1+")
+
+    def test_the_folder_s_sync(self):
+        self.check_ends(self.SYNCS, self.room, f"{self.syncs_at_a_start() + 1}+")
+
+    def syncs_at_a_start(self):
+        """How often a server syncs the folder as it starts with a new journal."""
+        told = os.path.join(self.room, "calls")
+        words = ["strace", "-f", "-qq", "-o", told, "-P", os.path.realpath(self.room), "-e", f"trace={self.SYNCS}"]
+        subprocess.run([*words, *self.server.command("--until-eof")], stdin=subprocess.DEVNULL, timeout=PATIENCE, check=True)
+        os.remove(self.server.journal)
+        with open(told, encoding="utf-8") as file:
+            return sum("sync(" in line for line in file)
+
+
+@unittest.skipUnless(shutil.which("strace"), "there is no strace")
+class Calls(Live):
+    CALL = re.compile(r"^\d+ +(\w+)\((?:\d+<([^>]*)>)?(.*)")
+
+    def test_the_order_of_calls(self):
+        """The new file is synced behind its last write, then it is renamed, and then the folder is synced."""
+        told = os.path.join(self.room, "calls")
+        names = f"{FailingCalls.WRITES},{FailingCalls.SYNCS},{FailingCalls.RENAMES}"
+        client = self.granted(ahead=["strace", "-f", "-y", "-qq", "-o", told, "-e", f"trace={names}"])
+        self.fill_up(client)
+        self.server.kill()
+        with open(told, encoding="utf-8") as file:
+            found = [match.groups() for match in map(self.CALL.match, file) if match]
+        rename = next(at for at, (name, _, words) in enumerate(found) if name.startswith("rename") and SNAPSHOT in words)
+        beside, journal, folder = map(os.path.realpath, (self.beside(), self.server.journal, self.room))
+        of_new = [name for name, path, _ in found[:rename] if path == beside]
+        self.assertIn("write", of_new)
+        self.assertIn(of_new[-1], ("fsync", "fdatasync"))
+        behind = [(name, path) for name, path, _ in found[rename + 1 :] if path in (beside, journal, folder)]
+        self.assertEqual(behind[0], ("fsync", folder))
+
+
+class Reading(Live):
+    """The reader of journals that the loads have finds what is wrong in a snapshot."""
+
+    def setUp(self):
+        super().setUp()
+        self.wrong, self.path = [], os.path.join(self.room, "followed")
+
+    def parts(self):
+        """A snapshot, and records of grants that the old file has behind what it says, and the old file."""
+        client = self.granted()
+        for job in range(1, 13):
+            client.ask(submit())
+            client.over(job)
+        self.server.kill()
+        old = self.data()
+        self.server.run()
+        later = [record(payload) for payload in payloads_of(old)[0][:1]] * 3
+        return self.data(), later, old
+
+    def follow(self, old, new, is_running=False):
+        """What a reader says that has read the old file, in whose place the new one came."""
+        self.wrong = []
+        for name, data in (("old", old), ("new", new)):
+            with open(os.path.join(self.room, name), "wb") as file:
+                file.write(data)
+        os.replace(os.path.join(self.room, "old"), self.path)
+        reader = Followed(self.path, lambda holds, what: holds or self.wrong.append(what), lambda number: number <= 10)
+        self.addCleanup(reader.close)
+        reader.is_running = is_running
+        reader.catch_up()
+        os.replace(os.path.join(self.room, "new"), self.path)
+        self.assertEqual(reader.catch_up(), b"")
+        return reader
+
+    def test_snapshots(self):
+        """With none of the old file's records behind it, with some, and with new ones."""
+        snapshot, later, old = self.parts()
+        for ahead, behind in ((0, 0), (0, 2), (1, 1), (2, 3), (3, 3)):
+            reader = self.follow(old + b"".join(later[:ahead]), snapshot + b"".join(later[:behind]))
+            self.assertEqual((self.wrong, reader.compactions), ([], 1))
+            self.assertEqual(reader.book.account("t")["granted"], CREDIT * (1 + behind))
+            self.assertEqual(len(reader.book.jobs), 12)
+
+    def test_a_snapshot_that_is_ahead(self):
+        """It has a grant and a job that the old file never got."""
+        snapshot, later, old = self.parts()
+        start = starts_of(old)[-3]
+        for before in (old[:start], old[: starts_of(old)[-2]]):
+            reader = self.follow(before, snapshot + later[0], True)
+            self.assertEqual(self.wrong, [])
+            self.assertEqual(reader.book.account("t"), {"balance": 2 * CREDIT - 36, "granted": 2 * CREDIT, "ok": True, "open": 0, "spent": 36})
+            self.follow(before, snapshot)
+            self.assertTrue(self.wrong)
+
+    def test_wrong_snapshots(self):
+        """With an account of less, an end that is another one, a report less, and without records that the old file had."""
+        snapshot, later, old = self.parts()
+        starts = starts_of(snapshot)
+        payloads = payloads_of(snapshot)[0]
+        kinds = [payload[0] for payload in payloads]
+        self.assertEqual(kinds, [7, 8, 9, 9, 8])
+
+        def changed(number, at, byte):
+            payload = bytearray(payloads[number])
+            payload[at] ^= byte
+            return snapshot[: starts[number]] + record(bytes(payload)) + snapshot[starts[number + 1] :]
+
+        # the grants, what was spent, and the credit that a report tells
+        for number, at in ((0, -16), (0, -8), (2, 10)):
+            with self.subTest(number=number, at=at):
+                self.follow(old, changed(number, at, 1))
+                self.assertTrue(self.wrong)
+        self.follow(old, snapshot[: starts[3]] + snapshot[starts[4] :])
+        self.assertTrue(self.wrong)
+        self.follow(old + later[0], snapshot)
+        self.assertTrue(self.wrong)
+
+
+if __name__ == "__main__":
+    unittest.main()
