@@ -16,8 +16,9 @@ of them. A client asks for `--pace` changes a second at most (0: as many as it c
 more than `--jobs` is left for a new one once all of it was looked at, since each start reads all of it.
 
 With `--compacting` jobs have larger buffers, the server keeps 50 reports and the clients have no pace, so
-that journals are compacted while the server runs, and many kills fall into that. It tells how many such
-compactions there were, by the lines on standard error, and how many kills left a snapshot in the making.
+that journals are compacted while the server runs. Every second kill waits for such a compaction, and falls
+into it or comes right behind it. It tells how many there were, by the lines on standard error, and how many
+kills left a snapshot in the making.
 
 A kill leaves what was written to the system: that records are synced ahead of replies is looked for by
 `tests/test_journal.py`, with strace. Status: 0, or 1 where something doesn't hold.
@@ -26,6 +27,7 @@ A kill leaves what was written to the system: that records are synced ahead of r
 import argparse
 import collections
 import os
+import random
 import sys
 import tempfile
 import time
@@ -33,7 +35,7 @@ import time
 TOP = os.path.dirname(os.path.dirname(os.path.abspath(__file__)))
 sys.path.insert(0, os.path.join(TOP, "tests"))
 from compactions import CountedKeeper, CountedTenantKeeper  # noqa: E402  (the module stands in the folder that was just added)
-from journal_load import DoorLoads, Load, good_jobs  # noqa: E402
+from journal_load import DoorLoads, Load, after, good_jobs  # noqa: E402
 from programs import assemble  # noqa: E402
 
 # All jobs are looked at each time that so many more rounds are over.
@@ -54,12 +56,14 @@ def words():
     parser.add_argument("--seed", type=int, default=1)
     parser.add_argument("--keep", type=int, help="how many reports the server keeps; 0: all; 50 with --compacting")
     parser.add_argument("--pace", type=float, help="how many changes a second a client asks for; 0: no bound; 6, or 0 with --compacting")
-    parser.add_argument("--jobs", type=int, help="a journal with more is left for a new one; 700, or 10,000 with --compacting")
+    parser.add_argument("--jobs", type=int, help="journals with more are left for new ones; 700, 350 with doors, 10,000 with --compacting")
     parser.add_argument("--more", type=int, help="so many bytes more in each buffer; 0, or 4096 with --compacting")
     parser.add_argument("--compacting", action="store_true", help="have journals compacted while the server runs")
     parser.add_argument("--folder", help="the folder for the journal, on the file system that is meant")
     given = parser.parse_args()
-    for name, value in (COMPACTING if given.compacting else PLAIN).items():
+    # servers with doors read each journal twice as they start
+    plain = {**PLAIN, "jobs": PLAIN["jobs"] // 2} if given.doors else PLAIN
+    for name, value in (COMPACTING if given.compacting else plain).items():
         if getattr(given, name) is None:
             setattr(given, name, value)
     return given
@@ -84,6 +88,28 @@ def many_doors(folder, seed, given, good):
     places = (given.doors + 2) * (clients["all"] + 2)
     server = CountedTenantKeeper(folder, *names, clients=places, workers=given.workers)
     return DoorLoads(server, seed, good, clients, given.keep)
+
+
+class InCompactions:
+    """Ends every second round by a moment in a compaction of its server, and each other one by the time."""
+
+    MOST = 10
+
+    def __init__(self, server, seed):
+        self.server, self.random, self.count = server, random.Random(seed), 0
+
+    def __call__(self, seconds):
+        self.count += 1
+        if self.count % 2:
+            return after(seconds)
+        begun, is_late, moment = [], after(self.MOST), self.random.choice((0, 0, 0.005, 0.02, 0.1))
+
+        def is_over():
+            if not begun and self.server.is_compacting():
+                begun.append(after(moment))
+            return is_late() or bool(begun) and begun[0]()
+
+        return is_over
 
 
 class Kills:
@@ -119,6 +145,8 @@ class Kills:
         try:
             for load in doors.loads:
                 load.pace = self.given.pace
+            if self.given.compacting:
+                doors.loads[0].ending = InCompactions(doors.server, seed)
             number, is_over = 0, False
             while not is_over and not doors.wrong():
                 number += 1

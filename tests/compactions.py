@@ -37,8 +37,12 @@ class Counted:
         super().kill()
         self.live += len(self.compacted())
         # a start removes what a kill has left
-        self.cut_short += self.ready is not None and bool(glob.glob(glob.escape(self.journal) + "*" + SNAPSHOT))
+        self.cut_short += self.ready is not None and self.is_compacting()
         self.ready = None
+
+    def is_compacting(self):
+        """Whether a snapshot of some journal is in the making, or was as its server was killed."""
+        return bool(glob.glob(glob.escape(self.journal) + "*" + SNAPSHOT))
 
     def lines(self):
         with open(self.lines_file, encoding="utf-8") as file:

@@ -107,8 +107,9 @@ class Followed:
         """A snapshot says what the records had said. Where it isn't exact it may say what came later, too."""
         old, known = self.book, len(self.book.jobs)
         self.compare_keys(new, known)
+        forgotten = old.gone - new.gone
         for number, end in new.ends.items():
-            self.expect(number not in old.gone, f"the forgotten job {number} is in the snapshot")
+            self.expect(number not in forgotten, f"the forgotten job {number} is in the snapshot")
             is_known = number in old.ends or not is_exact
             self.expect(is_known and old.ends.setdefault(number, end) == end, f"the end of job {number} is another one in the snapshot")
         for number, (job, before) in enumerate(zip(new.jobs, old.jobs), 1):

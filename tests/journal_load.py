@@ -218,7 +218,7 @@ def keep_busy(loads, is_over, kill):
     while not is_over():
         for load in loads:
             load.followed.look()
-        time.sleep(0.005)
+        time.sleep(0.002)
     kill()
     for load in loads:
         load.followed.is_running = False
@@ -242,6 +242,8 @@ class Load:
         self.found, self.torn = 0, 0
         # how many changes of the desk a client asks for in a second at most, or 0, and how many old jobs a look takes
         self.pace, self.sampled = 0, SAMPLED
+        # makes of a number of seconds a call that tells whether a round is over
+        self.ending = after
         self.follow_file(self.server.journal)
 
     def follow_file(self, path):
@@ -284,7 +286,7 @@ class Load:
             self.server.start()
         with self.server.connect() as client:
             self.audit(client, everything)
-        keep_busy([self], after(self.random.uniform(0, longest)), self.kill)
+        keep_busy([self], self.ending(self.random.uniform(0, longest)), self.kill)
 
     def kill(self):
         self.server.kill()
@@ -446,7 +448,7 @@ class DoorLoads:
         """Starts the server, looks for what was told at each door, has the tenants at work, and kills it."""
         self.server.start()
         self.audit(everything)
-        keep_busy(self.loads, after(self.random.uniform(0, longest)), self.kill)
+        keep_busy(self.loads, self.loads[0].ending(self.random.uniform(0, longest)), self.kill)
 
     def kill(self):
         """Kills the server. The records are read ahead of its next start, which may put a snapshot in their place."""

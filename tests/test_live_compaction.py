@@ -32,6 +32,9 @@ SMALLEST = MIB
 LARGE = 65_536
 OF_A_JOB = 2 * LARGE + 1000
 
+# More than any journal here comes to.
+MOST = 8 * MIB
+
 KEPT = 2
 CREDIT = 1_000_000
 
@@ -65,12 +68,13 @@ class Filling:
 
     def fill(self, client, is_over, first=1, path=None, **how):
         """Has large jobs run, one after the other, until something is over. Gives the number of the job to come."""
-        path, most = path or self.server.journal, 8 * MIB
+        path, until = path or self.server.journal, time.monotonic() + PATIENCE
         while not is_over():
             self.assertEqual(client.ask(large(first, **how)), {"job": first, "ok": True})
             self.assertTrue(json.loads(client.over(first))["ok"])
             first += 1
-            self.assertLess(os.path.getsize(path), most, "the journal grows, and isn't compacted")
+            self.assertLess(os.path.getsize(path), MOST, "the journal grows, and isn't compacted")
+            self.assertLess(time.monotonic(), until, "nothing is told of a compaction")
         return first
 
     def fill_up(self, client, first=1, **how):
@@ -336,7 +340,9 @@ class Doors(Filling, TenantRoom):
         for tenant in ("alice", "bob", "t"):
             self.grant(tenant, CREDIT)
         client, bob = self.connect("alice"), self.connect("bob")
-        self.job("bob", 1)
+        # a snapshot of bob's journal would be less than half as long
+        for job in range(1, 9):
+            self.job("bob", job)
         self.job("t", 1, "all")
         self.assertEqual(client.ask(large(1, "alice", key="first")), {"job": 1, "ok": True})
         others = {name: (os.stat(self.server.file(name)).st_ino, self.server.data(name)) for name in ("bob", "all")}
@@ -352,16 +358,16 @@ class Doors(Filling, TenantRoom):
         self.assertEqual(client.ask(asked_by("first")), {"job": 1, "ok": True})
         self.assertEqual(client.ask(large(jobs, "alice", key="last")), {"job": jobs, "ok": True})
         client.over(jobs)
-        self.assertEqual(bob.ask(submit(tenant="bob")), {"job": 2, "ok": True})
-        bob.over(2)
-        told = self.told(client, jobs + 1, "alice"), self.told(bob, 3, "bob")
+        self.assertEqual(bob.ask(submit(tenant="bob")), {"job": 9, "ok": True})
+        bob.over(9)
+        told = self.told(client, jobs + 1, "alice"), self.told(bob, 10, "bob")
         self.server.kill()
         for name in ("alice", "bob", "all"):
             self.check_journal(self.server.file(name))
         self.assertEqual(book_of(self.server.data("alice")).keyed, [(1, "first"), (jobs, "last")])
         self.server.start()
         client, bob = self.connect("alice"), self.connect("bob")
-        self.assertEqual((self.told(client, jobs + 1, "alice"), self.told(bob, 3, "bob")), told)
+        self.assertEqual((self.told(client, jobs + 1, "alice"), self.told(bob, 10, "bob")), told)
         for key, number in (("first", 1), ("last", jobs)):
             self.assertEqual(client.ask(asked_by(key)), {"job": number, "ok": True})
 
@@ -452,14 +458,15 @@ class FailingCalls(Live):
     def check_ends(self, calls, path, when):
         """It isn't known which file has the name. Nobody is told anything from then on, and all that was told is there."""
         client = self.start_with(calls, path, when)
-        other, granted, jobs, most = self.connect(), 0, 0, 8 * MIB
+        other, granted, jobs = self.connect(), 0, 0
         with contextlib.suppress(ConnectionResetError, BrokenPipeError):
-            while os.path.getsize(self.server.journal) < most:
+            while jobs < MOST // OF_A_JOB:
                 self.assertEqual(client.ask(large(jobs + 1)), {"job": jobs + 1, "ok": True})
                 jobs += 1
                 self.assertEqual(other.ask(grant(1, "u"))["granted"], granted + 1)
                 granted += 1
                 client.over(jobs)
+        self.assertLess(jobs, MOST // OF_A_JOB)
         self.assertEqual(self.server.process.wait(PATIENCE), 3)
         for asking in (client, other):
             with self.assertRaises((ConnectionResetError, BrokenPipeError)):
