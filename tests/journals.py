@@ -238,13 +238,19 @@ def read(path):
         return file.read()
 
 
+def kill_traced(process):
+    """Kills what strace traces, which would go on without it, and waits for both."""
+    with open(f"/proc/{process.pid}/task/{process.pid}/children", encoding="utf-8") as file:
+        children = file.read().split()
+    for child in children:
+        os.kill(int(child), signal.SIGKILL)
+    process.wait(PATIENCE)
+
+
 def traced(told, process, work):
     """The lines that strace has written to a file, while some work is done at what it traces, which is killed then."""
-    with open(f"/proc/{process.pid}/task/{process.pid}/children", encoding="utf-8") as file:
-        child = int(file.read().split()[0])
     work()
-    os.kill(child, signal.SIGKILL)
-    process.wait(PATIENCE)
+    kill_traced(process)
     with open(told, encoding="utf-8") as file:
         return file.read().splitlines()
 

@@ -14,7 +14,7 @@ import unittest
 from compactions import SNAPSHOT, CountedKeeper, CountedTenantKeeper
 from journal_following import Followed
 from journal_load import DoorLoads, Load, good_jobs, keep_busy
-from journals import book_of, payloads_of, read, record, starts_of
+from journals import book_of, kill_traced, payloads_of, read, record, starts_of
 from programs import BPFJOBS, IS_SLOW, PATIENCE, assemble, submit_text
 from rows import code_of
 from test_clients import spawner
@@ -426,16 +426,31 @@ class NotCompacted(Live):
 
 
 @unittest.skipUnless(shutil.which("strace"), "there is no strace")
-class FailingCalls(Live):
-    """A call that a compaction makes fails."""
+class Traced(Live):
+    """A server whose calls strace tells, or has fail."""
 
     WRITES, SYNCS, RENAMES = "write,pwrite64,writev", "fsync,fdatasync", "rename,renameat,renameat2"
 
-    def start_with(self, calls, path, when, *more):
-        """A server of which these calls on a path fail from a number on."""
+    def traced(self, *strace):
         told = os.path.join(self.room, "calls")
-        return self.granted(*more, ahead=["strace", "-f", "-qq", "-o", told, "-P", os.path.realpath(path), "-e", f"trace={calls}",
-                                          "-e", f"inject={calls}:error=EIO:when={when}"])
+        client = self.granted(ahead=["strace", "-f", "-qq", "-o", told, *strace])
+        self.addCleanup(self.kill_traced, self.server.process)
+        return client
+
+    def kill_traced(self, process):
+        """Kills a server, and not strace alone."""
+        if process.poll() is None:
+            kill_traced(process)
+        if process is self.server.process:
+            self.server.kill()
+
+
+class FailingCalls(Traced):
+    """A call that a compaction makes fails."""
+
+    def start_with(self, calls, path, when):
+        """A server of which these calls on a path fail from a number on."""
+        return self.traced("-P", os.path.realpath(path), "-e", f"trace={calls}", "-e", f"inject={calls}:error=EIO:when={when}")
 
     def check_kept(self, calls):
         """A new file that can't be written or synced: the server goes on with the old one."""
@@ -446,7 +461,7 @@ class FailingCalls(Live):
         client.over(jobs)
         told = self.told(client, jobs + 1)
         self.assertGreaterEqual(os.path.getsize(self.server.journal), SMALLEST)
-        self.server.kill()
+        self.kill_traced(self.server.process)
         self.assertEqual(self.told(self.start(), jobs + 1), told)
 
     def test_writes_of_the_new_file(self):
@@ -494,18 +509,15 @@ class FailingCalls(Live):
             return sum("sync(" in line for line in file)
 
 
-@unittest.skipUnless(shutil.which("strace"), "there is no strace")
-class Calls(Live):
+class Calls(Traced):
     CALL = re.compile(r"^\d+ +(\w+)\((?:\d+<([^>]*)>)?(.*)")
 
     def test_the_order_of_calls(self):
         """The new file is synced behind its last write, then it is renamed, and then the folder is synced."""
-        told = os.path.join(self.room, "calls")
-        names = f"{FailingCalls.WRITES},{FailingCalls.SYNCS},{FailingCalls.RENAMES}"
-        client = self.granted(ahead=["strace", "-f", "-y", "-qq", "-o", told, "-e", f"trace={names}"])
+        client = self.traced("-y", "-e", f"trace={self.WRITES},{self.SYNCS},{self.RENAMES}")
         self.fill_up(client)
-        self.server.kill()
-        with open(told, encoding="utf-8") as file:
+        self.kill_traced(self.server.process)
+        with open(os.path.join(self.room, "calls"), encoding="utf-8") as file:
             found = [match.groups() for match in map(self.CALL.match, file) if match]
         rename = next(at for at, (name, _, words) in enumerate(found) if name.startswith("rename") and SNAPSHOT in words)
         beside, journal, folder = map(os.path.realpath, (self.beside(), self.server.journal, self.room))
