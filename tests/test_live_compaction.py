@@ -277,7 +277,7 @@ class Busy(Live):
 
     def test_a_journal_stays_bounded(self):
         """Under load, with what was told there again behind the kill."""
-        buffer, keep, wanted = 8192, 50, (3 if IS_SLOW else 5) * MIB
+        buffer, keep, wanted = 8192, 50, 8 * MIB
         load = Load(self.room, 5, good_jobs(assemble, 5, more=buffer), keep=keep, keeper=CountedKeeper)
         self.addCleanup(load.end)
         until, sizes = time.monotonic() + PATIENCE, []
@@ -292,7 +292,7 @@ class Busy(Live):
             load.audit(client)
         keep_busy([load], is_over, load.kill)
         # twice a snapshot of the reports that are kept and of the jobs that are open, and what came meanwhile
-        self.assertLess(max(sizes), 2 * MIB + MIB // 2)
+        self.assertLess(max(sizes), wanted // 2)
         self.assertGreaterEqual(load.server.live, 1)
         self.check_journal(load.server.journal)
         load.audit_all()

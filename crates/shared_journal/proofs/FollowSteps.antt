@@ -7,7 +7,7 @@ use Rattle.shared_journal.specs.declared.journal_part.JournalPart.{JournalPart}
 use Rattle.shared_journal.specs.declared.seat_views.JournalEntry.{JournalEntry}
 use Rattle.shared_journal.specs.declared.seat_views.JournalView.{JournalView}
 use Rattle.shared_journal.specs.JournalHistories.{journal_bytes}
-use Rattle.shared_journal.specs.JournalRule.{AreCopies, Follows, HasCopies, KeepsDurable, TakesLog, with_copies}
+use Rattle.shared_journal.specs.JournalRule.{AreCopies, IsFollower, HasCopies, KeepsDurable, TakesLog, with_copies}
 use Rattle.shared_journal.specs.Standing.{StandForJournal}
 use Rattle.shared_journal.proofs.JournalCalls.{Held, first_held, same_part, same_log, some_or, log_there, log_one, log_view}
 
@@ -43,7 +43,7 @@ number_held v y taken written copied held is zero = ap (λ (m : Held). m.0.numbe
 
 -- who follows holds nothing then
 pub follows_on : (v y z : Held) (taken written : List JournalEntry) (copied : List ℕ) (put : JournalPart) → ◌≡◌ {A = Held} y (log_view v.0 taken written copied, (1, put) ∷ v.1)
-    → ◌≡◌ {A = Held} z (with_copies y.0, rest y.1) → Follows v → Follows z
+    → ◌≡◌ {A = Held} z (with_copies y.0, rest y.1) → IsFollower v → IsFollower z
 follows_on v y z taken written copied put is given follows =
     let here : ◌≡◌ {A = Held} z (with_copies (log_view v.0 taken written copied), v.1) = given ∙ ap (λ (m : Held). (with_copies m.0, rest m.1)) is in
     record {

@@ -242,7 +242,7 @@ abbrev pub ReturnsLog : {S : Type 0} → Step S → Me S JournalView → ℕ →
 ReturnsLog s v found w = w ≡ (record v.0 { has_log = false }, rest v.1)
 
 -- the seat is that of who follows the journal, and holds nothing
-pub record Follows {S : Type 0} (v : Me S JournalView) : Type 0 where
+pub record IsFollower {S : Type 0} (v : Me S JournalView) : Type 0 where
   pub number : v.0.number ≡ 0
   pub no_waiting : v.0.has_waiting ≡ false
   pub no_log : v.0.has_log ≡ false

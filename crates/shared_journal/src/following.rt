@@ -56,11 +56,11 @@ pub(crate) fn follow<R: Wait>(
     desk: &mut FollowedDesk,
 ) -> Vec<u8>
     requires table { seat.old.table_id ≡ history.now.table }
-    requires follows { rule.Follows seat.old.me }
+    requires follows { rule.IsFollower seat.old.me }
     ensures same { (seat.new.table_id ≡ seat.old.table_id) × (seat.new.id ≡ seat.old.id)
         × (seat.new.me.0.first ≡ seat.old.me.0.first)
         × (seat.new.me.0.is_failed ≡ seat.old.me.0.is_failed) }
-    ensures follows { rule.Follows seat.new.me }
+    ensures follows { rule.IsFollower seat.new.me }
     ensures copied { desk.new.is_lost ≡ false
         → seat.new.me.0.copied ≡ seat.old.me.0.copied ++ result.items }
     ensures replayed { desk.new.replayed ≡ desk.old.replayed ++ result.items }
@@ -134,12 +134,12 @@ pub(crate) fn replace_log<R: Wait + Files<File = File>>(
     new: NewJournal<'_, R>,
 ) -> (usize, Result<usize, ReplaceFault>)
     requires table { seat.old.table_id ≡ history.now.table }
-    requires follows { rule.Follows seat.old.me }
+    requires follows { rule.IsFollower seat.old.me }
     requires stands { StandForJournal new.bytes.items seat.old.me.0.copied }
     ensures same { (seat.new.table_id ≡ seat.old.table_id) × (seat.new.id ≡ seat.old.id)
         × (seat.new.me.0.first ≡ seat.old.me.0.first)
         × (seat.new.me.0.is_failed ≡ seat.old.me.0.is_failed) }
-    ensures follows { rule.Follows seat.new.me }
+    ensures follows { rule.IsFollower seat.new.me }
     ensures replayed { desk.new.is_lost ≡ false → (desk.old.replayed ≡ seat.old.me.0.copied)
         → desk.new.replayed ≡ seat.new.me.0.copied }
     ensures lost { desk.old.is_lost ≡ true → desk.new.is_lost ≡ true }

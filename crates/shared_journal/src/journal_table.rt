@@ -92,7 +92,7 @@ pub(crate) struct FollowerSeat {
 
 impl Model for FollowerSeat {
     ghost use Rattle.shared_journal.specs.JournalHistories.{FollowerKnowledge};
-    ghost use Rattle.shared_journal.specs.JournalRule.{Follows};
+    ghost use Rattle.shared_journal.specs.JournalRule.{IsFollower};
 
     ghost Value = { FollowerKnowledge };
 
@@ -102,7 +102,7 @@ impl Model for FollowerSeat {
       has_failed = s.seat.me.0.is_failed;
     } };
 
-    ghost invariant = { λ s. Follows s.seat.me };
+    ghost invariant = { λ s. IsFollower s.seat.me };
 }
 
 /// A journal's table. Contracts see which one it is, and the bytes that its log held at first.
