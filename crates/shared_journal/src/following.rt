@@ -20,7 +20,7 @@ use std::alloc::Global;
 use std::fs::{File, Files};
 use std::sync::Wait;
 
-// More bytes than these are replayed before the log is given back, so that who writes waits for who
+// More bytes than these may be replayed before the log is given back, so that who writes waits for who
 // follows.
 const MOST_BEHIND: usize = 16 << 20;
 
@@ -47,13 +47,14 @@ fn lose_unless(desk: &mut FollowedDesk, is_followed: bool)
 }
 
 /// Takes the bytes that became durable since, and replays them on the desk. It is lost where they were
-/// not kept, for want of memory.
+/// not kept, for want of memory. Where they are many, and it is asked for, the log is held meanwhile.
 pub(crate) fn follow<R: Wait>(
     rt: &R,
     alloc: Global,
     history: &JournalTable,
     seat: &mut PartSeat,
     desk: &mut FollowedDesk,
+    may_hold: bool,
 ) -> Vec<u8>
     requires table { seat.old.table_id ≡ history.now.table }
     requires follows { rule.IsFollower seat.old.me }
@@ -75,8 +76,8 @@ pub(crate) fn follow<R: Wait>(
         is_followed,
     } = part;
     lose_unless(desk, is_followed);
-    let is_much = bytes.len() > MOST_BEHIND;
-    replay_if(desk, &bytes, is_much);
+    let is_held = may_hold && bytes.len() > MOST_BEHIND;
+    replay_if(desk, &bytes, is_held);
     let given = JournalPart {
         bytes: Vec::new(alloc),
         commits,
@@ -85,7 +86,7 @@ pub(crate) fn follow<R: Wait>(
     };
     let _ = history.exchange(seat, LOG, given);
     history.return_copied(seat);
-    replay_if(desk, &bytes, !is_much);
+    replay_if(desk, &bytes, !is_held);
     bytes
 }
 

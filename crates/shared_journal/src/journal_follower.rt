@@ -64,6 +64,7 @@ pub struct JournalFollower {
     len: usize,
     next: usize,
     durable: u64,
+    has_begun: bool,
 }
 
 impl Model for JournalFollower {
@@ -111,6 +112,7 @@ impl JournalFollower {
             len: 0,
             next: next_after(len),
             durable: u64::MAX,
+            has_begun: false,
         }
     }
 
@@ -127,7 +129,8 @@ impl JournalFollower {
         self.len >= self.next
     }
 
-    // Takes the bytes that became durable since, and replays them.
+    // Takes the bytes that became durable since, and replays them. At first these are all of a file:
+    // nobody waits for that.
     fn take<R: Wait>(&mut self, rt: &R, journal: &SharedJournal) -> Vec<u8>
         requires { self.old.journal ≡ journal.now.history }
         ensures own { self.new.journal ≡ self.old.journal }
@@ -140,7 +143,9 @@ impl JournalFollower {
             journal.history(),
             &mut self.seat.seat,
             &mut self.desk,
+            self.has_begun,
         );
+        self.has_begun = true;
         self.len = self.len.saturating_add(bytes.len());
         bytes
     }
