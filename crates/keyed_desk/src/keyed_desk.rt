@@ -8,7 +8,7 @@ ghost use Rattle.keyed_desk.specs.KeyedSteps.{IsNoKey};
 use crate::keyed_change::KeyedChange;
 use desk_journal::{DeskChange, JournaledDesk};
 use recovery::{ApplyFault, StateMachine};
-use sessions::{JobKey, KeyedJob, note_key};
+use sessions::{JobKey, KeyedJobs};
 use std::alloc::Global;
 use std::marker::Model;
 
@@ -17,18 +17,15 @@ use std::marker::Model;
 #[derive(Drop)]
 pub struct KeyedDesk {
     pub(crate) desk: JournaledDesk,
-    pub(crate) keys: Vec<KeyedJob>,
+    pub(crate) keys: KeyedJobs,
 }
 
 impl Model for KeyedDesk {
-    ghost use Rattle.std.specs.Prelude.{◌≤◌, length};
     ghost use Rattle.keyed_desk.specs.KeyedSteps.{KeyedState};
 
     ghost Value = { KeyedState };
 
-    ghost view = { λ d. record { desk = d.desk; keys = d.keys.items } };
-
-    ghost invariant = { λ d. length d.keys.items ≤ 1000 };
+    ghost view = { λ d. record { desk = d.desk; keys = d.keys.jobs } };
 }
 
 // The key of these bytes. Refused where they are none.
@@ -56,11 +53,12 @@ impl KeyedDesk {
     ghost use Rattle.keyed_desk.specs.KeyedSteps.{IsNoKey};
 
     /// The desk, and its keyed jobs, oldest first.
-    pub fn into_parts(self) -> (JournaledDesk, Vec<KeyedJob>)
-        ensures same { (result.0 ≡ self.desk) × (result.1.items ≡ self.keys) }
-        ensures few { length result.1.items ≤ 1000 }
+    pub fn into_parts(self) -> (JournaledDesk, KeyedJobs)
+        ensures same { (result.0 ≡ self.desk) × (result.1.jobs ≡ self.keys) }
+        ensures few { length result.1.jobs ≤ 1000 }
     {
         let KeyedDesk { desk, keys } = self;
+        let _ = keys.as_slice(); // for the proof
         (desk, keys)
     }
 
@@ -79,11 +77,11 @@ impl KeyedDesk {
             ⊎ RefusesChangeBytes self.old.desk (change_bytes change.now) }
     {
         let key = key_of(alloc, key)?;
-        if self.keys.reserve(1).is_err() {
+        if self.keys.reserve().is_err() {
             return Err(ApplyFault::NoMemory);
         }
         self.desk.apply(alloc, change)?;
-        note_key(&mut self.keys, self.desk.desk().job_count(), key);
+        self.keys.note(self.desk.desk().job_count(), key);
         Ok(())
     }
 
@@ -95,10 +93,10 @@ impl KeyedDesk {
         ensures refused { IsErrOf result Refused → IsNoKey key.now }
     {
         let key = key_of(alloc, key)?;
-        if self.keys.reserve(1).is_err() {
+        if self.keys.reserve().is_err() {
             return Err(ApplyFault::NoMemory);
         }
-        note_key(&mut self.keys, job, key);
+        self.keys.note(job, key);
         Ok(())
     }
 }
@@ -117,7 +115,7 @@ impl StateMachine for KeyedDesk {
     fn start(alloc: Global) -> KeyedDesk {
         KeyedDesk {
             desk: JournaledDesk::start(alloc),
-            keys: Vec::new(alloc),
+            keys: KeyedJobs::new(alloc),
         }
     }
 

@@ -44,7 +44,7 @@ impl Snapshot for KeyedDesk {
 
     fn snapshot(&self, alloc: Global, out: &mut Vec<u8>) -> Result<(), SnapshotFault> {
         self.desk.snapshot(alloc, out)?;
-        add_keys(alloc, &self.keys, out)?;
+        add_keys(alloc, self.keys.as_slice(), out)?;
         Ok(())
     }
 

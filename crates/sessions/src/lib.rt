@@ -23,7 +23,7 @@ mod tenant_key;
 pub use door_forms::{DoorForm, DoorForms};
 pub use door_request::{DoorRequest, read_at_door};
 pub use job_key::{JobKey, KeyedJob};
-pub use keyed_jobs::{MOST_KEYS, note_key};
+pub use keyed_jobs::{KeyedJobs, MOST_KEYS};
 pub use request::{JobObject, Request, job_object, read_request_by};
 pub use tenant_key::TenantKey;
 

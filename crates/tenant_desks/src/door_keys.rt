@@ -3,7 +3,7 @@
 use crate::key_table::KeyTable;
 use crate::routing::place_behind;
 use refusal::NoMemory;
-use sessions::{JobKey, KeyedJob};
+use sessions::{JobKey, KeyedJob, KeyedJobs};
 use shared_desk::Door;
 use std::alloc::Global;
 use std::marker::Model;
@@ -25,7 +25,7 @@ impl Model for DoorKeys {
 }
 
 impl DoorKeys {
-    ghost use Rattle.std.specs.Prelude.{◌≡◌, ◌≤◌, ◌∷◌, ◌++◌, [], IfOk, OnErr, OnOk, length, replicate};
+    ghost use Rattle.std.specs.Prelude.{◌≡◌, ◌∷◌, ◌++◌, [], IfOk, OnErr, OnOk, replicate};
     ghost use Rattle.tenant_desks.specs.AtDoors.{keys_behind, with_key};
     ghost use Rattle.sessions.specs.JobKeys.{job_among};
 
@@ -37,7 +37,7 @@ impl DoorKeys {
         let mut tables = Vec::new(alloc);
         for made in 0..count {
             let _ = made;
-            tables.push(KeyTable::of(Vec::new(alloc))?)?;
+            tables.push(KeyTable::of(KeyedJobs::new(alloc))?)?;
         }
         Ok(DoorKeys { tables })
     }
@@ -51,11 +51,10 @@ impl DoorKeys {
         }
     }
 
-    /// One door more, which remembers these keys, at most 1,000. Refused where there is no memory for
-    /// all that it remembers.
-    pub fn add(&mut self, keys: Vec<KeyedJob>) -> Result<(), NoMemory>
-        requires { length keys.items ≤ 1000 }
-        ensures ok { OnOk result (self.new ≡ self.old ++ keys.items ∷ []) }
+    /// One door more, which remembers these keys. Refused where there is no memory for all that it
+    /// remembers.
+    pub fn add(&mut self, keys: KeyedJobs) -> Result<(), NoMemory>
+        ensures ok { OnOk result (self.new ≡ self.old ++ keys.jobs ∷ []) }
         ensures err { OnErr result (self.new ≡ self.old) }
     {
         let table = KeyTable::of(keys)?;

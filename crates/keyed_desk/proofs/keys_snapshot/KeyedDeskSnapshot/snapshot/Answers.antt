@@ -1,4 +1,4 @@
-use Rattle.std.proofs.Common.{◌≡◌, ◌++◌, ℕ, List, subst}
+use Rattle.std.proofs.Common.{◌≡◌, ◌≤◌, ◌++◌, ℕ, List, length, subst}
 use Rattle.compaction.specs.Snapshots.{IsSnapshot}
 use Rattle.sessions.specs.declared.job_key.KeyedJob.{KeyedJob}
 use Rattle.keyed_desk.specs.KeyedSnapshots.{AreKeyChanges, AreKeyedAlike, HasLargeKeyedChange}
@@ -18,9 +18,9 @@ pub returns-clause-ok : goal.returns-clause-ok
 returns-clause-ok c =
     let before = c.args.out.now.items in
     let now = c.add_keys.new.out.items in
-    let m : KeyedState = record { desk = c.self.inside.desk; keys = c.self.inside.keys.items } in
+    let m : KeyedState = record { desk = c.self.inside.desk; keys = c.self.inside.keys.jobs } in
     let first = c.in_ok-snapshot.ensures.ok in
     let then = c.in_ok-add_keys.ensures in
-    let changes = subst (λ (keys : List KeyedJob). AreKeyChanges keys then.0) c.deref.ensures.value then.1 in
+    let changes = subst (λ (keys : List KeyedJob). AreKeyChanges keys then.0) c.as_slice.ensures.same then.1 in
     subst (λ (state : KeyedState). (bytes : List ℕ) × (now ≡ before ++ bytes) × IsSnapshot IsNewKeyed MakesKeyed AreKeyedAlike state bytes) c.self.view_is
-    (snapshot_made m before c.snapshot.new.out.items now first.0 then.0 c.self.invariant first.1 first.2 changes then.2 then.3)
+    (snapshot_made m before c.snapshot.new.out.items now first.0 then.0 (subst (λ (keys : List KeyedJob). length keys ≤ 1000) c.as_slice.ensures.same c.as_slice.ensures.few) first.1 first.2 changes then.2 then.3)
