@@ -204,7 +204,7 @@ class Synced(AtIntervals):
         ahead = ["strace", "-f", "-ttt", "-y", "-qq", "-o", told, "-e", "trace=write,fdatasync", *strace]
         client = self.start(ahead=ahead)
         lines = traced(told, self.server.process, lambda: work(client))
-        pattern = re.compile(r"^\d+ +(\d+\.\d+) (\w+)\(\d+<" + re.escape(os.path.realpath(self.server.journal)))
+        pattern = re.compile(r"^\d+ +(\d+\.\d+) (\w+)\(\d+<" + re.escape(os.path.realpath(self.server.journal)) + ">")
         return [(float(found[1]), found[2]) for found in map(pattern.match, lines) if found]
 
     def test_once_a_second(self):

@@ -48,12 +48,16 @@ def large(number, tenant="t", **more):
     return {**json.loads(text), **more}
 
 
-def long_job(parts):
-    """The request of a job that keeps a worker busy for a second or two, of so many parts, and its credit."""
+# Jobs that keep a worker busy for a second or two: how many, and of how many parts each. A report has room in a frame.
+LONG, PARTS = (2, 1) if IS_SLOW else (24, 20)
+
+
+def long_job():
+    """The request of such a job, and its credit."""
     leaf = " / ".join(["mov64 r0, 0"] * 4000 + ["exit"])
-    middle = 100 * 4001 + 100 * 100
-    programs = [spawner(parts, 1, middle), spawner(100, 2, 4001), leaf]
-    credit = parts * (middle + 100)
+    middle = 500 * 4001 + 500 * 100
+    programs = [spawner(PARTS, 1, middle), spawner(500, 2, 4001), leaf]
+    credit = PARTS * (middle + 100)
     return json.loads(submit_text([(0, code_of(text)) for text in programs], credit, b"")), credit
 
 
@@ -66,10 +70,11 @@ class Filling:
             self.assertLess(time.monotonic(), until, what)
             time.sleep(0.005)
 
-    def fill(self, client, is_over, first=1, path=None, **how):
+    def fill(self, client, is_over, first=1, path=None, pause=0, **how):
         """Has large jobs run, one after the other, until something is over. Gives the number of the job to come."""
         path, until = path or self.server.journal, time.monotonic() + PATIENCE
         while not is_over():
+            time.sleep(pause)
             self.assertEqual(client.ask(large(first, **how)), {"job": first, "ok": True})
             self.assertTrue(json.loads(client.over(first))["ok"])
             first += 1
@@ -210,7 +215,7 @@ class Compacted(Live):
     def test_at_intervals(self):
         """The same where replies wait for no sync."""
         client = self.granted("--journal-sync", "interval", "--until-eof", stdin=subprocess.PIPE)
-        jobs = self.fill_up(client)
+        jobs = self.fill_up(client, pause=0.1)
         self.check_bounded()
         told = self.told(client, jobs)
         client.stream.close()
@@ -224,47 +229,50 @@ class Open(Live):
 
     def test_jobs_that_run_and_that_wait(self):
         """They stand in the snapshot as they were taken, and begin anew behind a kill."""
-        request, credit = long_job(5 if IS_SLOW else 900)
+        request, credit = long_job()
         self.server = self.keeper(workers=1)
         client = self.granted()
-        client.ask(grant(2 * credit))
+        client.ask(grant(LONG * credit))
         first = self.fill_to(client, SMALLEST)
-        jobs = [request, request, submit(), large(0)]
+        jobs = [request] * LONG + [submit(), large(0)]
         for number, job in enumerate(jobs, first):
             self.assertEqual(client.ask(job), {"job": number, "ok": True})
         self.assertGreaterEqual(os.path.getsize(self.server.journal), SMALLEST)
         self.wait_for(self.server.compacted, "no compaction")
-        self.assertEqual(client.ask({"op": "result", "job": first + 1}), {"code": 77, "ok": False}, "the long jobs are too short")
+        last = first + LONG
+        self.assertEqual(client.ask({"op": "result", "job": last - 1}), {"code": 77, "ok": False}, "the long jobs are too short")
         self.server.kill()
         book = book_of(self.data())
-        self.assertFalse({first + 1, first + 2, first + 3} & set(book.ends))
-        self.assertEqual(book.jobs[first + 1], ("t", [(0, ADD)], 3, b""))
+        self.assertFalse({last - 1, last, last + 1} & set(book.ends))
+        self.assertEqual(book.jobs[last - 1], ("t", [(0, ADD)], 3, b""))
         self.check_journal()
         self.server = self.keeper(workers=4, keep=100)
         self.check_begun_anew(self.start(), first, credit)
 
     def check_begun_anew(self, client, first, credit):
-        results = [json.loads(client.over(number)) for number in range(first, first + 4)]
+        # (the reports of the first long ones may be forgotten, for their bytes)
+        results = [json.loads(client.over(number)) for number in range(first + LONG - 2, first + LONG + 2)]
         self.assertEqual(comparable(results[0]), comparable(results[1]))
         self.assertEqual(results[0]["spent"] + results[0]["returned"], credit)
         self.assertEqual((results[2]["spent"], results[2]["tasks"][0]["r0"]), (3, 42))
         self.assertEqual(results[3]["buffer"], large(0)["buffer"])
-        account, spent = client.ask(ACCOUNT), 2 * results[0]["spent"] + 3 * (first + 1)
-        self.assertEqual((account["open"], account["spent"], account["granted"]), (0, spent, CREDIT + 2 * credit))
+        account, spent = client.ask(ACCOUNT), LONG * results[0]["spent"] + 3 * (first + 1)
+        self.assertEqual((account["open"], account["spent"], account["granted"]), (0, spent, CREDIT + LONG * credit))
 
     def test_little_to_save(self):
         """A journal of jobs that all wait stays as it is. Once they are over, and it has doubled, it is compacted."""
-        request, credit = long_job(10 if IS_SLOW else 900)
+        request, credit = long_job()
         self.server = self.keeper(workers=1)
         client = self.granted()
-        client.ask(grant(credit))
-        self.assertEqual(client.ask(request), {"job": 1, "ok": True})
-        node, last = os.stat(self.server.journal).st_ino, SMALLEST // LARGE + 2
-        for number, told in enumerate(client.told_all([large(job) for job in range(2, last + 1)]), 2):
+        client.ask(grant(LONG * credit))
+        for number in range(1, LONG + 1):
+            self.assertEqual(client.ask(request), {"job": number, "ok": True})
+        node, last = os.stat(self.server.journal).st_ino, SMALLEST // LARGE + LONG + 1
+        for number, told in enumerate(client.told_all([large(job) for job in range(LONG + 1, last + 1)]), LONG + 1):
             self.assertEqual(json.loads(told), {"job": number, "ok": True})
         self.assertGreaterEqual(os.path.getsize(self.server.journal), SMALLEST)
         time.sleep(0.2)
-        self.assertEqual(client.ask({"op": "result", "job": 1}), {"code": 77, "ok": False}, "the long job is too short")
+        self.assertEqual(client.ask({"op": "result", "job": LONG}), {"code": 77, "ok": False}, "the long jobs are too short")
         self.assertEqual((self.server.compacted(), os.stat(self.server.journal).st_ino), ([], node))
         client.over(last)
         jobs = self.fill(client, self.server.compacted, last + 1)

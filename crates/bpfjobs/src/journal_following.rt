@@ -49,8 +49,17 @@ fn tell<R: Eprint>(rt: &R, path: &str, compaction: Compaction) {
     }
 }
 
+// Tells that a journal isn't compacted any more, unless it has failed: then its end is told elsewhere, in
+// a moment.
+fn tell_lost<R: Clock + Eprint>(rt: &R, path: &str, journal: &SharedJournal) {
+    thread::sleep(rt, Duration::from_millis(BETWEEN_LOOKS));
+    if !journal.has_failed() {
+        let _ = eprintln!(rt; "bpfjobs: {path}: not compacted any more: no memory for a record");
+    }
+}
+
 // Replays what is new of a journal, and compacts it where that is due.
-fn tend<R: Wait + Files<File = File> + Eprint>(
+fn tend<R: Wait + Clock + Files<File = File> + Eprint>(
     rt: &R,
     path: &str,
     journal: &SharedJournal,
@@ -64,7 +73,7 @@ fn tend<R: Wait + Files<File = File> + Eprint>(
     }
     follower.catch_up(rt, journal);
     if follower.is_lost() {
-        let _ = eprintln!(rt; "bpfjobs: {path}: not compacted any more: no memory for a record");
+        tell_lost(rt, path, journal);
         return;
     }
     if follower.is_due() {
@@ -73,7 +82,7 @@ fn tend<R: Wait + Files<File = File> + Eprint>(
 }
 
 // Looks at the journal at a place.
-fn tend_at<R: Wait + Files<File = File> + Eprint>(
+fn tend_at<R: Wait + Clock + Files<File = File> + Eprint>(
     rt: &R,
     paths: &[String],
     journals: &[SharedJournal],
