@@ -54,7 +54,7 @@ impl From<KeptBy> for NotReplaced {
     }
 }
 
-/// IsFollower a journal: has a desk to which its durable records lead. So a snapshot can be put in their
+/// Follows a journal: has a desk to which its durable records lead. So a snapshot can be put in their
 /// place while the journal goes on.
 #[derive(Drop)]
 pub struct JournalFollower {
