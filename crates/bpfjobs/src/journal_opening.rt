@@ -132,7 +132,7 @@ fn opened<R: Files<File = File> + Eprint>(
     let mut bytes = Vec::new(alloc);
     file.read_to_end(&mut bytes)?;
     let (log, bytes, desk) = replayed(rt, alloc, path, file, bytes)?;
-    let Ok((journal, follower)) = SharedJournal::followed(alloc, place, log, bytes) else {
+    let Ok((journal, follower)) = SharedJournal::new(alloc, place, log, bytes) else {
         return Err(FileFault::NoMemory);
     };
     Ok(OpenedJournal {

@@ -8,6 +8,7 @@ ghost use Rattle.desk_recorder.specs.Recording.{IsChangeRecord, IsRecorded};
 use crate::record_queue::RecordQueue;
 use recovery::RecordFault;
 use refusal::NoMemory;
+use streams::Noted;
 
 /// Puts the records of changes into a queue. Once one is missing it has stopped: the queue has no
 /// later ones, and is told so.
@@ -88,5 +89,14 @@ impl<Q: RecordQueue> ChangeRecorder<Q> {
     {
         self.is_stopped = true;
         self.queue.fail();
+    }
+}
+
+/// A note covers the records that it has put into its queue.
+impl<M, Q: RecordQueue + Noted<M>> Noted<M> for ChangeRecorder<Q> {
+    ghost covers = { λ place note r. Q.covers place note r.queue };
+
+    fn note(&mut self, place: usize, into: &mut M) {
+        self.queue.note(place, into);
     }
 }

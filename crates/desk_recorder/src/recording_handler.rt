@@ -10,7 +10,8 @@ use refusal::NoMemory;
 use sessions::Request;
 use std::alloc::Global;
 use streams::{
-    Handler, PendingReply, PreparedRequest, Runner, SubmitRefusal, TellingHandler, written_frame,
+    Handler, Noted, PendingReply, PreparedRequest, Runner, SubmitRefusal, TellingHandler,
+    written_frame,
 };
 
 /// Answers a request as the runner does, and then has the desk forget until what it keeps is within
@@ -87,5 +88,14 @@ impl<N: Runner, Q: RecordQueue> TellingHandler for RecordingHandler<N, Q> {
             self.keep,
             request,
         )
+    }
+}
+
+/// A note covers the records that its recorder has put into the queue.
+impl<M, N: Runner, Q: RecordQueue + Noted<M>> Noted<M> for RecordingHandler<N, Q> {
+    ghost covers = { λ place note h. Q.covers place note h.recorder.queue };
+
+    fn note(&mut self, place: usize, into: &mut M) {
+        Noted::note(&mut self.recorder, place, into);
     }
 }

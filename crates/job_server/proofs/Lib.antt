@@ -1,3 +1,4 @@
+pub mod GivenUp
 pub mod Alike
 pub mod AtOnceAlike
 pub mod ListEnds

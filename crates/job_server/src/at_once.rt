@@ -1,6 +1,6 @@
 //! Many connections at once, with one desk and one handler.
 
-ghost use Rattle.std.specs.Prelude.{◌≡◌, ◌≤◌, [], All, Ok, OnOk, IfErr, IfSome, false, is_some};
+ghost use Rattle.std.specs.Prelude.{◌≡◌, ◌≤◌, [], All, Ok, OnOk, IfErr, IfOk, IfSome, false, is_some, length};
 ghost use Rattle.job_server.specs.AtOnce.{EndsBy, IsServingFrom};
 ghost use Rattle.job_server.specs.Listening.{AreOf, AreOfFirst, CameBy};
 ghost use Rattle.shared_desk.specs.declared.passage.Passage.{Passage};
@@ -14,13 +14,14 @@ use crate::reply_journals::journals_behind;
 use crate::shares::{Shares, leave, shares_of};
 use crate::stop_flag::{ended_by, has_failed, raise_if};
 use crate::timed_reader::{TimedReader, Waiting};
+use durable_replies::{DurableSink, notes_of, serve_durably};
 use refusal::NoMemory;
 use server_log::{LogEvent, ServerLog, millis_since};
 use shared_desk::{
-    ClientSeat, HistoryId, NewHistory, Origin, Passage, SharedDesk, SharedHandler, SharedHistory,
-    serve_opened,
+    ClientSeat, HistoryId, LentDesk, NewHistory, Origin, Passage, SharedDesk, SharedHandler,
+    SharedHistory,
 };
-use shared_journal::{CommittingSink, ReplySync, SharedJournal};
+use shared_journal::{GroupNote, NoteMaker, ReplySync, SharedJournal};
 use std::alloc::Global;
 use std::marker::Brand;
 use std::net::TcpStream;
@@ -28,15 +29,23 @@ use std::sync::{Mutex, Wait};
 use std::thread;
 use std::thread::Threads;
 use std::time::{Clock, Instant};
-use streams::{StreamFault, Tap};
+use streams::{Noted, StreamFault, Tap};
 
 /// The fault where there is no memory.
 pub(crate) const NO_MEMORY: ServeFault = ServeFault::Connection(StreamFault::NoMemory);
 
 // Serves a connection of this number that was taken, whose replies rest on these journals, committed
 // ahead of each or at intervals. Gives its two ends, and whether a reply was refused since a journal
-// has failed.
-fn answer_connection<'s, R: Wait + Clock, D, H: SharedHandler<D>, J: Origin<D, H>>(
+// has failed. Where there is no memory for its notes it is given up by 99, with nothing read.
+fn answer_connection<
+    's,
+    R: Wait + Clock,
+    D,
+    H: SharedHandler<D> + Noted<N>,
+    N: GroupNote,
+    K: NoteMaker<N>,
+    J: Origin<D, H>,
+>(
     rt: &'s R,
     alloc: Global,
     history: &SharedHistory<J>,
@@ -46,7 +55,7 @@ fn answer_connection<'s, R: Wait + Clock, D, H: SharedHandler<D>, J: Origin<D, H
     connection: u64,
     stream: &'s TcpStream,
     waiting: Waiting<'s>,
-    journals: &'s [SharedJournal],
+    makers: &[K],
     sync: ReplySync,
 ) -> (
     NotedReader<'s, TimedReader<'s, R>>,
@@ -59,12 +68,29 @@ fn answer_connection<'s, R: Wait + Clock, D, H: SharedHandler<D>, J: Origin<D, H
     let timed = TimedReader::new(rt, stream, waiting);
     let mut reader = Tap::new(NotedReader::new(timed, waiting.stop));
     let tap = Tap::new(NotedWriter::new(stream));
-    let mut writer = CommittingSink::new(rt, journals, sync, tap);
-    serve_opened(
-        rt,
+    let Ok(notes) = notes_of(alloc, makers) else {
+        let outcome = Err(StreamFault::NoMemory);
+        lock.lock(rt)
+            .close(history, seat, passage, &reader, &tap, &outcome);
+        return (reader.into_inner(), tap.into_inner(), false);
+    };
+    let mut writer = DurableSink::new(rt, makers, notes, sync, tap);
+    let way = LentDesk::new(rt, history, lock);
+    serve_durably::<
+        Brand,
+        Tap<NotedReader<'s, TimedReader<'s, R>>>,
+        Tap<NotedWriter<&'s TcpStream>>,
+        R,
+        LentDesk<'_, R, D, H, J>,
+        R,
+        D,
+        H,
+        N,
+        K,
+        J,
+    >(
+        way,
         alloc,
-        history,
-        lock,
         seat,
         passage,
         connection,
@@ -107,7 +133,9 @@ fn take_turns<
     R: Wait + Clock,
     L: Listener + Drop,
     D,
-    H: SharedHandler<D>,
+    H: SharedHandler<D> + Noted<N>,
+    N: GroupNote,
+    K: NoteMaker<N>,
     J: Origin<D, H> + FirstListener<L>,
 >(
     rt: &R,
@@ -118,6 +146,7 @@ fn take_turns<
     waiting: Waiting<'_>,
     shares: Option<&Shares>,
     journals: &[SharedJournal],
+    makers: &[K],
     sync: ReplySync,
     log: &ServerLog,
 ) {
@@ -128,7 +157,7 @@ fn take_turns<
             return;
         };
         let begun = tell_opened(rt, log, connection, passage);
-        let own = journals_behind(journals, passage);
+        let own = journals_behind(makers, passage);
         let (reader, writer, is_refused) = answer_connection(
             rt, alloc, history, lock, seat, passage, connection, &stream, waiting, own, sync,
         );
@@ -191,7 +220,9 @@ fn serve_named<
     R: Threads + Wait + Clock + Sync,
     L: Listener + Send + Drop,
     D: Send + Drop,
-    H: SharedHandler<D> + Send + Drop,
+    H: SharedHandler<D> + Noted<N> + Send + Drop,
+    N: GroupNote + Send,
+    K: NoteMaker<N> + Sync,
     J: Origin<D, H> + FirstListener<L> + Send + Sync,
 >(
     rt: &R,
@@ -201,6 +232,7 @@ fn serve_named<
     desk: D,
     handler: H,
     plan: Plan<'_>,
+    makers: &[K],
     shares: Option<&Shares>,
 ) -> (D, H, Result<(), ServeFault>)
     requires named { new_history ≡ J.table }
@@ -235,7 +267,7 @@ fn serve_named<
     log.tell(rt, LogEvent::Ready);
     let serve = |_: usize| {
         take_turns(
-            rt, alloc, known, door, shared, waiting, shares, journals, sync, log,
+            rt, alloc, known, door, shared, waiting, shares, journals, makers, sync, log,
         )
     };
     let _ = thread::map_indices(rt, alloc, bounds.clients as usize, &serve);
@@ -257,8 +289,23 @@ fn opened(alloc: Global, plan: &Plan<'_>) -> Result<(NewHistory, Option<Shares>)
     Ok((new_history, shares))
 }
 
+/// The journals, each by itself.
+pub(crate) fn each_of<'j>(
+    alloc: Global,
+    journals: &'j [SharedJournal],
+) -> Result<Vec<&'j SharedJournal>, NoMemory>
+    ensures { IfOk result (λ each. length each.items ≡ length journals.entry.now) }
+{
+    let mut each = Vec::new(alloc);
+    for journal in journals {
+        each.push(journal)?;
+    }
+    Ok(each)
+}
+
 /// Serves so many connections of the listener as the plan says, in as many threads at once as its
-/// bounds say, from this desk and this handler on, and gives both back.
+/// bounds say, from this desk and this handler on, and gives both back. Each of these makes notes of a
+/// journal of the plan, in order.
 ///
 /// One legal history has all answers in order, and leads to the desk and the handler. On each
 /// connection its own part of the history was asked and answered, in order, and the history has
@@ -269,7 +316,9 @@ pub fn serve_at_once<
     R: Threads + Wait + Clock + Sync,
     L: Listener + Send + Drop,
     D: Send + Drop,
-    H: SharedHandler<D> + Send + Drop,
+    H: SharedHandler<D> + Noted<N> + Send + Drop,
+    N: GroupNote + Send,
+    K: NoteMaker<N> + Sync,
 >(
     rt: &R,
     alloc: Global,
@@ -277,6 +326,7 @@ pub fn serve_at_once<
     desk: D,
     handler: H,
     plan: Plan<'_>,
+    makers: &[K],
 ) -> (D, H, Result<(), ServeFault>)
     requires ready { H.ready handler }
     ensures { (s : IsServingFrom H.answers (λ s. s ≡ (desk, handler)) (result.0, result.1)
@@ -288,7 +338,7 @@ pub fn serve_at_once<
         return (desk, handler, Err(NO_MEMORY));
     };
     let shares = shares.as_ref();
-    serve_named::<R, L, D, H, Brand>(
+    serve_named::<R, L, D, H, N, K, Brand>(
         rt,
         alloc,
         new_history,
@@ -296,6 +346,7 @@ pub fn serve_at_once<
         desk,
         handler,
         plan,
+        makers,
         shares,
     )
 }

@@ -4,7 +4,9 @@ use accounts::{Desk, KeepLimits};
 use refusal::NoMemory;
 use sessions::Request;
 use std::alloc::Global;
-use streams::{Handler, PendingReply, PreparedRequest, Runner, SubmitRefusal, TellingHandler};
+use streams::{
+    Handler, Noted, PendingReply, PreparedRequest, Runner, SubmitRefusal, TellingHandler,
+};
 
 /// Answers a request as the runner does, and then has the desk forget until what it keeps is within
 /// the limits.
@@ -55,4 +57,11 @@ impl<N: Runner> TellingHandler for KeepingHandler<N> {
         desk.keep_within(self.keep);
         told
     }
+}
+
+/// It records nothing, so there is nothing to be noted.
+impl<M, N> Noted<M> for KeepingHandler<N> {
+    ghost covers = { λ _ _ _. Unit {0} };
+
+    fn note(&mut self, _place: usize, _into: &mut M) {}
 }

@@ -26,6 +26,7 @@ use accounts::Desk;
 use job_pools::LineLimitedRunner;
 use refusal::NoMemory;
 use server_log::{CountingHandler, LoggedHandler};
+use shared_journal::{JournalNote, SharedJournal};
 use std::alloc::Global;
 use std::sync::Wait;
 use std::thread::Threads;
@@ -54,7 +55,14 @@ pub(crate) fn serve_at_desk<
     let logged = LoggedHandler::new(rt, plan.log, kept);
     let handler = CountingHandler::new(rt, plan.log, logged);
     let desk = Desk::new(alloc);
-    let served = serve_at_once(rt, alloc, listener, desk, handler, plan);
+    let served = serve_at_once::<
+        R,
+        L,
+        Desk,
+        CountingHandler<'s, R, LoggedHandler<'s, R, KeepingHandler<N>>>,
+        JournalNote<'s>,
+        &'s SharedJournal,
+    >(rt, alloc, listener, desk, handler, plan, &[]);
     served.2
 }
 
@@ -106,6 +114,13 @@ pub(crate) fn serve_at_desks<
     let named = OwnNaming::of(TenantHandler::new(rt, plan.log, limited, plan.bounds.keep));
     let doors = TenantDoors::of(named, keys);
     let handler = CountingHandler::new(rt, plan.log, doors);
-    let served = serve_at_once(rt, alloc, listener, desks, handler, plan);
+    let served = serve_at_once::<
+        R,
+        L,
+        TenantDesks,
+        CountingHandler<'s, R, TenantDoors<OwnNaming<TenantHandler<'s, R, LineLimitedRunner<N>>>>>,
+        JournalNote<'s>,
+        &'s SharedJournal,
+    >(rt, alloc, listener, desks, handler, plan, &[]);
     served.2
 }

@@ -21,7 +21,7 @@ use desk_journal::OpenJob;
 use desk_recorder::RecordingHandler;
 use keyed_desk::KeyedDesk;
 use server_log::{CountingHandler, LoggedHandler};
-use shared_journal::JournalQueue;
+use shared_journal::{JournalNote, JournalQueue, SharedJournal};
 use std::alloc::Global;
 use std::sync::Wait;
 use std::thread::Threads;
@@ -77,6 +77,14 @@ pub(crate) fn serve_recorded<
     recording.restart(alloc, &mut desk, jobs);
     let logged = LoggedHandler::new(rt, plan.log, recording);
     let handler = CountingHandler::new(rt, plan.log, logged);
-    let served = serve_at_once(rt, alloc, listener, desk, handler, plan);
+    let makers = [&plan.journals[0]];
+    let served = serve_at_once::<
+        R,
+        L,
+        Desk,
+        CountingHandler<'s, R, LoggedHandler<'s, R, RecordingHandler<N, JournalQueue<'s, 's, R>>>>,
+        JournalNote<'s>,
+        &'s SharedJournal,
+    >(rt, alloc, listener, desk, handler, plan, &makers);
     served.2
 }

@@ -20,7 +20,7 @@ ghost use Rattle.job_server.specs.TenantRecorded.{AreFresh, AreRestarted, desks_
 ghost use Rattle.job_server.specs.TenantServing.{door_credits};
 ghost use Rattle.job_server.specs.declared.fault.ServeFault.TheVariants as fault;
 
-use crate::at_once::{NO_MEMORY, serve_at_once};
+use crate::at_once::{NO_MEMORY, each_of, serve_at_once};
 use crate::fault::ServeFault;
 use crate::listener::Listener;
 use crate::plan::Plan;
@@ -33,7 +33,7 @@ use job_pools::LineLimitedRunner;
 use keyed_desk::KeyedDesk;
 use refusal::NoMemory;
 use server_log::CountingHandler;
-use shared_journal::{JournalQueue, SharedJournal};
+use shared_journal::{JournalNote, JournalQueue, SharedJournal};
 use std::alloc::Global;
 use std::sync::Wait;
 use std::thread::Threads;
@@ -94,7 +94,7 @@ fn queues_of<'s, R>(
     rt: &'s R,
     alloc: Global,
     journals: &'s [SharedJournal],
-) -> Result<Vec<JournalQueue<'s, R>>, NoMemory>
+) -> Result<Vec<JournalQueue<'s, 's, R>>, NoMemory>
     ensures own { IfOk result (λ queues. map (queue_journal {R = R}) queues.items
         ≡ journals.entry.now) }
     ensures count { IfOk result (λ queues. length queues.items ≡ length journals.entry.now) }
@@ -113,7 +113,7 @@ fn recording_handler<'s, R: Wait, N: Runner + Drop>(
     alloc: Global,
     runner: N,
     plan: Plan<'s>,
-) -> Result<RecordingTenantHandler<'s, R, LineLimitedRunner<N>, JournalQueue<'s, R>>, NoMemory>
+) -> Result<RecordingTenantHandler<'s, R, LineLimitedRunner<N>, JournalQueue<'s, 's, R>>, NoMemory>
     ensures runner { IfOk result (λ made. made.runner
         ≡ new_by_line (door_limits plan.entry.bounds.tenant_jobs plan.entry.tenants.now) runner) }
     ensures keep { IfOk result (λ made. made.keep ≡ plan.entry.bounds.keep) }
@@ -171,6 +171,9 @@ pub(crate) fn serve_tenants_recorded<
     let Ok(tenants) = credits_of(alloc, plan.tenants) else {
         return Err(NO_MEMORY);
     };
+    let Ok(makers) = each_of(alloc, plan.journals) else {
+        return Err(NO_MEMORY);
+    };
     let Ok(mut handler) = recording_handler(rt, alloc, runner, plan) else {
         return Err(NO_MEMORY);
     };
@@ -180,6 +183,13 @@ pub(crate) fn serve_tenants_recorded<
     handler.restart(alloc, &mut desks, jobs);
     let doors = TenantDoors::of(TenantRecording::of(handler), keys);
     let counting = CountingHandler::new(rt, plan.log, doors);
-    let served = serve_at_once(rt, alloc, listener, desks, counting, plan);
+    let served = serve_at_once::<
+        R,
+        L,
+        TenantDesks,
+        CountingHandler<'s, R, TenantDoors<TenantRecording<'s, 's, R, LineLimitedRunner<N>>>>,
+        JournalNote<'s>,
+        &'s SharedJournal,
+    >(rt, alloc, listener, desks, counting, plan, &makers);
     served.2
 }

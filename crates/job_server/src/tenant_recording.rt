@@ -3,23 +3,23 @@
 use refusal::NoMemory;
 use sessions::{DoorForm, JobKey, Request};
 use shared_desk::{Passage, SharedHandler};
-use shared_journal::JournalQueue;
+use shared_journal::{JournalNote, JournalQueue};
 use std::alloc::Global;
 use std::marker::Model;
 use std::sync::Wait;
 use std::time::Clock;
-use streams::{PendingReply, PreparedRequest, Runner};
+use streams::{Noted, PendingReply, PreparedRequest, Runner};
 use tenant_desks::{KeyedHandler, TenantDesks, own_named};
 use tenant_recorder::RecordingTenantHandler;
 
 /// A handler whose journals are lent for as long as it is. What leaves its tenant's name out is asked by
 /// the name of the door's own tenant. Contracts see the handler itself.
 #[derive(Drop)]
-pub(crate) struct TenantRecording<'s, R, N> {
-    handler: RecordingTenantHandler<'s, R, N, JournalQueue<'s, R>>,
+pub(crate) struct TenantRecording<'s, 'j, R, N> {
+    handler: RecordingTenantHandler<'s, R, N, JournalQueue<'s, 'j, R>>,
 }
 
-impl<'s, R, N> Model for TenantRecording<'s, R, N> {
+impl<'s, 'j, R, N> Model for TenantRecording<'s, 'j, R, N> {
     ghost use Rattle.shared_journal.specs.declared.journal_queue.JournalQueue.{JournalQueue};
     ghost use Rattle.tenant_recorder.specs.TenantsRecorded.{RecordedRunner};
 
@@ -28,20 +28,20 @@ impl<'s, R, N> Model for TenantRecording<'s, R, N> {
     ghost view = { λ h. h.handler };
 }
 
-impl<'s, R, N: Drop> TenantRecording<'s, R, N> {
+impl<'s, 'j, R, N: Drop> TenantRecording<'s, 'j, R, N> {
     ghost use Rattle.std.specs.Prelude.{◌≡◌};
 
     /// This handler.
     pub fn of(
-        handler: RecordingTenantHandler<'s, R, N, JournalQueue<'s, R>>,
-    ) -> TenantRecording<'s, R, N>
+        handler: RecordingTenantHandler<'s, R, N, JournalQueue<'s, 'j, R>>,
+    ) -> TenantRecording<'s, 'j, R, N>
         ensures { result ≡ handler.entry }
     {
         TenantRecording { handler }
     }
 }
 
-impl<R: Wait + Clock, N: Runner> SharedHandler<TenantDesks> for TenantRecording<'_, R, N> {
+impl<R: Wait + Clock, N: Runner> SharedHandler<TenantDesks> for TenantRecording<'_, '_, R, N> {
     ghost use Rattle.tenant_recorder.specs.TenantsRecorded.{tenant_answers_recorded};
     ghost use Rattle.job_server.specs.Recorded.{queue_taken, queue_told};
 
@@ -66,7 +66,7 @@ impl<R: Wait + Clock, N: Runner> SharedHandler<TenantDesks> for TenantRecording<
     }
 }
 
-impl<R: Wait + Clock, N: Runner> KeyedHandler for TenantRecording<'_, R, N> {
+impl<R: Wait + Clock, N: Runner> KeyedHandler for TenantRecording<'_, '_, R, N> {
     ghost use Rattle.tenant_recorder.specs.TenantsRecorded.{keeps_recorded_key};
     ghost use Rattle.job_server.specs.Recorded.{queue_taken, queue_told};
 
@@ -82,5 +82,17 @@ impl<R: Wait + Clock, N: Runner> KeyedHandler for TenantRecording<'_, R, N> {
     ) -> Result<PendingReply, NoMemory> {
         let named = own_named(alloc, &desk.names, passage.door, request);
         self.handler.answer_keyed(alloc, desk, passage, named, key)
+    }
+}
+
+/// A note covers the records that the recorder of the desk at a place has put into its queue.
+impl<'s, 'j, R: Wait, N> Noted<JournalNote<'j>> for TenantRecording<'s, 'j, R, N> {
+    ghost use Rattle.shared_journal.specs.JournalHistories.{IsNoteOf};
+    ghost use Rattle.tenant_recorder.specs.Recorders.{CoversDeskAt};
+
+    ghost covers = { λ place note h. CoversDeskAt (λ _ n q. IsNoteOf n q.seat) place note h.recorders };
+
+    fn note(&mut self, place: usize, into: &mut JournalNote<'j>) {
+        self.handler.note(place, into);
     }
 }

@@ -15,7 +15,7 @@ use std::alloc::Global;
 use std::marker::Model;
 use std::sync::Wait;
 use std::time::Clock;
-use streams::{PendingReply, PreparedRequest};
+use streams::{Noted, PendingReply, PreparedRequest};
 
 // The number of the refusal of what is no request.
 const NO_REQUEST: u8 = 73;
@@ -101,6 +101,15 @@ impl<D, R: Wait + Clock, H: SharedHandler<D>> SharedHandler<D> for CountingHandl
         let nothing = PreparedRequest::AsItCame(Err(NO_REQUEST));
         drop(self.handler.answer_by(alloc, desk, passage, nothing, None));
         totals_reply(self.rt, self.log, alloc)
+    }
+}
+
+/// A note covers what the handler has recorded.
+impl<M, R, H: Noted<M>> Noted<M> for CountingHandler<'_, R, H> {
+    ghost covers = { λ place note h. H.covers place note h };
+
+    fn note(&mut self, place: usize, into: &mut M) {
+        self.handler.note(place, into);
     }
 }
 

@@ -15,7 +15,9 @@ use std::alloc::Global;
 use std::marker::Model;
 use std::sync::Wait;
 use std::time::Clock;
-use streams::{PendingReply, PreparedRequest, SubmitRefusal, TellingHandler, wants_admission};
+use streams::{
+    Noted, PendingReply, PreparedRequest, SubmitRefusal, TellingHandler, wants_admission,
+};
 
 /// Answers as a handler does, and tells a log of each job that was taken and whose start is refused,
 /// and of each grant. Contracts see it as the handler.
@@ -105,5 +107,14 @@ impl<R: Wait + Clock, H: TellingHandler> SharedHandler<Desk> for LoggedHandler<'
         };
         tell_answer(self.rt, self.log, refusal, granted);
         reply
+    }
+}
+
+/// A note covers what the handler has recorded.
+impl<M, R, H: Noted<M>> Noted<M> for LoggedHandler<'_, R, H> {
+    ghost covers = { λ place note h. H.covers place note h };
+
+    fn note(&mut self, place: usize, into: &mut M) {
+        self.handler.note(place, into);
     }
 }

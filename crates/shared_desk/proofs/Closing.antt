@@ -9,9 +9,6 @@ use Rattle.shared_desk.specs.ClientViews.{ClientView}
 use Rattle.shared_desk.specs.Parts.{IsWritten, IsWrittenUpTo, NamesTheEnd, IsServedClient}
 use Rattle.shared_desk.specs.Closed.{IsServedWhole, closed_of, first_fault, earlier_fault}
 
-pub closed_is : (found c : ClosedConnection) (h : List HistoryEntry) (cs : List ClosedConnection) (now : List HistoryEntry × List ClosedConnection) → found ≡ c → now ≡ (h, found ∷ cs) → now ≡ (h, c ∷ cs)
-closed_is found c h cs now is more = more ∙ ap (λ (x : ClosedConnection). (h, x ∷ cs)) is
-
 -- what is known of those that are over
 abbrev pub AreTold : List ClosedConnection → ℕ → Result (Unit {0}) StreamFault → Type 0
 AreTold cs count outcome = All IsServedWhole cs × (count ≡ min (length cs) (2 ^ 64 - 1)) × (outcome ≡ first_fault cs)
@@ -62,3 +59,8 @@ module _ (comes : Passage → Type 0) where
 
   pub one_came : (c : ClosedConnection) (cs now : List ClosedConnection) → now ≡ c ∷ cs → comes c.passage → Came cs → Came now
   one_came c cs now is one came = subst Came (sym is) (all_more (λ c. comes c.passage) c cs one came)
+
+  -- a connection that is over is this one
+  pub is_served : (found c : ClosedConnection) → found ≡ c → IsServedWhole c → comes c.passage → IsServedWhole found × comes found.passage × (found.outcome ≡ c.outcome)
+  is_served found c is served came =
+      (subst IsServedWhole (sym is) served, subst (λ (x : ClosedConnection). comes x.passage) (sym is) came, ap (λ (x : ClosedConnection). x.outcome) is)

@@ -316,7 +316,7 @@ module _ (slots id : ℕ) (me : Me (Unit {0}) DeskView) (st : Step (Unit {0})) w
           ended = kept.ended;
           others = kept.others;
         },
-        (refl, ap (part_of me.0.number) known.1 ∙ own.2),
+        (refl, ap (part_of me.0.number) known.1 ∙ own.2, subst (IsPrefix me.0.seen) (sym known.1) own.3),
       )
 
   -- a connection is over, and has no seat any more

@@ -28,10 +28,10 @@ pub replies_append : (xs ys : List HistoryEntry) → replies_of (xs ++ ys) ≡ r
 replies_append [] ys = refl
 replies_append (x ∷ xs) ys = ap (λ (l : List ℕ). x.reply ++ l) (replies_append xs ys) ∙ sym (append_assoc x.reply (replies_of xs) (replies_of ys))
 
-replies_one : (xs : List HistoryEntry) (e : HistoryEntry) → replies_of (xs ++ e ∷ []) ≡ replies_of xs ++ e.reply
+pub replies_one : (xs : List HistoryEntry) (e : HistoryEntry) → replies_of (xs ++ e ∷ []) ≡ replies_of xs ++ e.reply
 replies_one xs e = replies_append xs (e ∷ []) ∙ ap (λ (l : List ℕ). replies_of xs ++ l) (append-nil e.reply)
 
-extends_none : (v : ClientView) → Extends v [] v
+pub extends_none : (v : ClientView) → Extends v [] v
 extends_none v = record { number = refl; seen = prefix_self v.seen; more = sym (append-nil v.part) }
 
 extends_on : (v m w : ClientView) (first second : List HistoryEntry) → Extends v first m → Extends m second w → Extends v (first ++ second) w

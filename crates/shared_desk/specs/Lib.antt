@@ -6,6 +6,7 @@ pub mod Grants
 pub mod ClientViews
 pub mod Rule
 pub mod Answered
+pub mod Notes
 pub mod Parts
 pub mod Closed
 pub mod Together

@@ -126,9 +126,11 @@ SeesAll s v found w =
       v.1,
     ))
 
--- a connection, as the recorder, compares its part with the whole history
+-- a connection, as the recorder, compares its part with the whole history, which begins with what
+-- it has seen
 abbrev pub KnowsItsPart : {S : Type 0} → Step S → Me S DeskView → ℕ → Me S DeskView → Type 0
-KnowsItsPart s v found w = (w ≡ v) × (part_of v.0.number v.0.history ≡ v.0.part)
+KnowsItsPart s v found w =
+    (w ≡ v) × (part_of v.0.number v.0.history ≡ v.0.part) × IsPrefix v.0.seen v.0.history
 
 -- a connection, as the recorder, is over, and has no seat from then on
 abbrev pub ClosesItself : {S : Type 0} → (ClosedConnection → Type 0) → Step S → Me S DeskView → ℕ

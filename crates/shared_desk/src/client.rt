@@ -2,42 +2,43 @@
 
 ghost use Rattle.std.specs.Prelude.{◌≡◌, [], false, ℕ, List, IfOk, OnErr};
 ghost use Rattle.shared_desk.specs.Answered.{IsSharedAnswer, query_by};
+ghost use Rattle.shared_desk.specs.ClientViews.{ClientView};
 ghost use Rattle.shared_desk.specs.Histories.{Replays, part_of};
+ghost use Rattle.shared_desk.specs.Notes.{IsNotedAt};
 ghost use Rattle.shared_desk.specs.Parts.{IsServedClient};
 ghost use Rattle.streams.specs.Hearing.{query_of};
 ghost use Rattle.streams.specs.Prepared.{asked_of};
+ghost use Rattle.streams.specs.Stops.{too_large_reply};
 
-use crate::desk::SharedDesk;
 use crate::passage::{Passage, PassageId};
 use crate::seats::Origin;
 use crate::shared_handler::SharedHandler;
-use crate::shared_history::{ClientSeat, SharedHistory};
+use crate::shared_history::ClientSeat;
+use crate::way::DeskWay;
 use refusal::NoMemory;
 use sessions::{DoorForm, DoorRequest, Request, read_at_door};
 use std::alloc::Global;
-use std::marker::{Brand, Model, PhantomData};
-use std::sync::{Mutex, Wait};
+use std::marker::{Model, PhantomData};
+use std::sync::Wait;
 use streams::{
-    FrameHandler, PendingReply, PreparedRequest, Sink, Source, StreamFault, prepare, serve_stream,
-    written_frame,
+    FrameHandler, Noted, PendingReply, PreparedRequest, ReplySink, Source, StreamFault, prepare,
+    serve_stream, written_frame,
 };
 
 /// Answers one connection's requests at the shared desk, each under the lock, as far as its passage
 /// lets them come there. The handler hears the connection's number. Contracts see it as what the
-/// connection knows of the history.
+/// connection knows of the history. The type parameter `P` leads to the desk.
 #[derive(Drop)]
-pub struct Client<'a, R, D, H: SharedHandler<D>, J: Origin<D, H>, G: PassageId> {
-    rt: &'a R,
-    history: &'a SharedHistory<J>,
-    lock: &'a Mutex<SharedDesk<D, H, J>>,
+pub struct Client<P, R, D, H: SharedHandler<D>, J: Origin<D, H>, G: PassageId> {
+    way: P,
     seat: ClientSeat<J>,
     passage: Passage,
     connection: u64,
-    of: PhantomData<G>,
+    of: PhantomData<(R, D, H, G)>,
 }
 
-impl<'a, R, D, H: SharedHandler<D>, J: Origin<D, H>, G: PassageId> Model
-    for Client<'a, R, D, H, J, G> {
+impl<P, R, D, H: SharedHandler<D>, J: Origin<D, H>, G: PassageId> Model
+    for Client<P, R, D, H, J, G> {
     ghost use Rattle.std.specs.Prelude.{◌≡◌};
     ghost use Rattle.shared_desk.specs.ClientViews.{ClientView};
     ghost use Rattle.shared_desk.specs.Histories.{Replays, part_of};
@@ -50,35 +51,33 @@ impl<'a, R, D, H: SharedHandler<D>, J: Origin<D, H>, G: PassageId> Model
         × (part_of c.seat.number c.seat.seen ≡ c.seat.part) × (c.passage ≡ G.passage) };
 }
 
-impl<'a, R, D, H: SharedHandler<D>, J: Origin<D, H>, G: PassageId> Client<'a, R, D, H, J, G> {
+impl<P, R, D, H: SharedHandler<D>, J: Origin<D, H>, G: PassageId> Client<P, R, D, H, J, G> {
     /// A connection of this number that has seen a legal history.
     pub fn of(
-        rt: &'a R,
-        history: &'a SharedHistory<J>,
-        lock: &'a Mutex<SharedDesk<D, H, J>>,
+        way: P,
         seat: ClientSeat<J>,
         passage: Passage,
         connection: u64,
-    ) -> Client<'a, R, D, H, J, G>
+    ) -> Client<P, R, D, H, J, G>
         requires passage { passage ≡ G.passage }
         requires legal { (s : D × H) × Replays H.answers J.begins seat.seen s }
         requires own { part_of seat.number seat.seen ≡ seat.part }
         ensures { result ≡ seat }
     {
         Client {
-            rt,
-            history,
-            lock,
+            way,
             seat,
             passage,
             connection,
             of: PhantomData,
         }
     }
+}
 
+impl<P: Drop, R, D, H: SharedHandler<D>, J: Origin<D, H>, G: PassageId> Client<P, R, D, H, J, G> {
     /// What the connection knows.
     pub fn into_seat(self) -> ClientSeat<J>
-        ensures same { result ≡ self.entry }
+        ensures same { result ≡ self }
         ensures legal { (s : D × H) × Replays H.answers J.begins result.seen s }
         ensures own { part_of result.number result.seen ≡ result.part }
     {
@@ -87,25 +86,30 @@ impl<'a, R, D, H: SharedHandler<D>, J: Origin<D, H>, G: PassageId> Client<'a, R,
     }
 }
 
-impl<'a, R: Wait, D, H: SharedHandler<D>, J: Origin<D, H>, G: PassageId> Client<'a, R, D, H, J, G> {
+impl<P: DeskWay<R, D, H, J>, R: Wait, D, H: SharedHandler<D>, J: Origin<D, H>, G: PassageId> Client<
+    P,
+    R,
+    D,
+    H,
+    J,
+    G,
+> {
     /// A connection of this number that was opened. It sees all that was answered so far.
     pub fn new(
-        rt: &'a R,
-        history: &'a SharedHistory<J>,
-        lock: &'a Mutex<SharedDesk<D, H, J>>,
+        way: P,
         mut seat: ClientSeat<J>,
         passage: Passage,
         connection: u64,
-    ) -> Client<'a, R, D, H, J, G>
+    ) -> Client<P, R, D, H, J, G>
         requires { passage ≡ G.passage }
         ensures { (result.number ≡ seat.number) × (result.part ≡ seat.part) }
     {
-        lock.lock(rt).look(history, &mut seat);
-        Client::of(rt, history, lock, seat, passage, connection)
+        way.locked_desk()
+            .lock(way.handle())
+            .look(way.history(), &mut seat);
+        Client::of(way, seat, passage, connection)
     }
-}
 
-impl<R: Wait, D, H: SharedHandler<D>, J: Origin<D, H>, G: PassageId> Client<'_, R, D, H, J, G> {
     // The same request of the plain protocol. One for a job that the desk would take now, but for its
     // admission, is admitted here, while others are at the desk.
     fn prepared(&self, alloc: Global, request: Result<Request, u8>) -> PreparedRequest
@@ -119,8 +123,9 @@ impl<R: Wait, D, H: SharedHandler<D>, J: Origin<D, H>, G: PassageId> Client<'_, 
             return PreparedRequest::AsItCame(Ok(request));
         }
         let is_wanted = self
-            .lock
-            .lock(self.rt)
+            .way
+            .locked_desk()
+            .lock(self.way.handle())
             .wants_admission(self.passage, &request);
         if is_wanted {
             prepare(alloc, request)
@@ -141,10 +146,10 @@ impl<R: Wait, D, H: SharedHandler<D>, J: Origin<D, H>, G: PassageId> Client<'_, 
         ensures err { OnErr result ((reply : List ℕ) × IsSharedAnswer H.answers J.begins self.old
             (query_by G.passage request beyond) reply self.new) }
     {
-        let mut shared = self.lock.lock(self.rt);
+        let mut shared = self.way.locked_desk().lock(self.way.handle());
         shared.serve_next(self.connection);
         shared.answer(
-            self.history,
+            self.way.history(),
             &mut self.seat,
             alloc,
             self.passage,
@@ -152,10 +157,29 @@ impl<R: Wait, D, H: SharedHandler<D>, J: Origin<D, H>, G: PassageId> Client<'_, 
             beyond,
         )
     }
+
+    /// Notes what was recorded for the handler at a place, under the lock, which is free again once
+    /// this returns. The handler is one to which a legal history leads that begins with all that the
+    /// connection has seen, and in which its part is what it was answered.
+    pub fn note<M>(&mut self, place: usize, into: &mut M)
+    where
+        H: Noted<M>,
+        ensures same { self.new ≡ self.old }
+        ensures noted { IsNotedAt H.answers J.begins H.covers place into.new self.old }
+    {
+        let mut shared = self.way.locked_desk().lock(self.way.handle());
+        shared.note(self.way.history(), &mut self.seat, place, into);
+    }
 }
 
-impl<R: Wait, D, H: SharedHandler<D>, J: Origin<D, H>, G: PassageId> FrameHandler<()>
-    for Client<'_, R, D, H, J, G> {
+impl<
+    P: DeskWay<R, D, H, J>,
+    R: Wait,
+    D,
+    H: SharedHandler<D>,
+    J: Origin<D, H>,
+    G: PassageId,
+> FrameHandler<()> for Client<P, R, D, H, J, G> {
     ghost use Rattle.std.specs.Prelude.{ℕ, Option, Result};
     ghost use Rattle.sessions.specs.Grammar.{Asked};
     ghost use Rattle.sessions.specs.declared.door_forms.DoorForm.{DoorForm};
@@ -192,19 +216,22 @@ impl<R: Wait, D, H: SharedHandler<D>, J: Origin<D, H>, G: PassageId> FrameHandle
 /// 83 where the reader failed: all replies of the part are written. 84 where the writer failed: a
 /// beginning of them. 99 where there was no memory, and neither failed: all of them, or all but the
 /// last one.
+///
+/// What was written may go out then, by the sink's own rule.
 pub fn serve_client<
     S: Source,
-    W: Sink,
+    P: DeskWay<R, D, H, J>,
     R: Wait,
     D,
     H: SharedHandler<D>,
     J: Origin<D, H>,
     G: PassageId,
+    W: ReplySink<(), Client<P, R, D, H, J, G>>,
 >(
     alloc: Global,
     reader: &mut S,
     writer: &mut W,
-    client: &mut Client<'_, R, D, H, J, G>,
+    client: &mut Client<P, R, D, H, J, G>,
 ) -> Result<u64, StreamFault>
     requires source { S.has_failed reader.old ≡ false }
     requires sink { W.has_failed writer.old ≡ false }
@@ -212,18 +239,32 @@ pub fn serve_client<
         W.has_failed ((reader.old, writer.old), client.old) ((reader.new, writer.new), client.new) result }
     ensures legal { (s : D × H) × Replays H.answers J.begins client.new.seen s }
     ensures own { part_of client.new.number client.new.seen ≡ client.new.part }
+    ensures let_go { (first : W) → W.lets_go first (writer.old, client.old) []
+        → W.has_let_go first (writer.new, client.new) too_large_reply }
 {
     let served = serve_stream(alloc, reader, writer, &mut (), client);
     let _ = &client.seat; // for the proof
     served
 }
 
-// `serve_opened` under a name for the passage.
-fn serve_passed<G: PassageId, S: Source, W: Sink, R: Wait, D, H: SharedHandler<D>, J: Origin<D, H>>(
-    rt: &R,
+/// Serves a connection that was opened, of which nothing came and nothing was written yet, by its
+/// passage, and closes it: the history then has its part, and what went through its ends. The
+/// handler hears this number of it.
+///
+/// A sink that lets a connection's replies go at their beginning has let go of all that was written, by
+/// its own rule, for what the connection knew at its end.
+pub fn serve_opened<
+    G: PassageId,
+    S: Source,
+    P: DeskWay<R, D, H, J> + Drop,
+    R: Wait,
+    D,
+    H: SharedHandler<D>,
+    J: Origin<D, H>,
+    W: ReplySink<(), Client<P, R, D, H, J, G>>,
+>(
+    way: P,
     alloc: Global,
-    history: &SharedHistory<J>,
-    lock: &Mutex<SharedDesk<D, H, J>>,
     seat: ClientSeat<J>,
     passage: Passage,
     connection: u64,
@@ -235,36 +276,22 @@ fn serve_passed<G: PassageId, S: Source, W: Sink, R: Wait, D, H: SharedHandler<D
     requires source { (S.has_failed reader.old ≡ false) × (S.transcript reader.old ≡ []) }
     requires sink { (W.has_failed writer.old ≡ false) × (W.transcript writer.old ≡ []) }
     requires fresh { seat.part ≡ [] }
+    ensures let_go { (first : W)
+        → ((fresh : ClientView) → fresh.part ≡ [] → W.lets_go first (writer.old, fresh) [])
+        → (client : ClientView) × (client.number ≡ seat.number)
+        × W.has_let_go first (writer.new, client) too_large_reply }
 {
-    let mut client: Client<'_, R, D, H, J, G> = Client::new(
-        rt, history, lock, seat, passage, connection,
-    );
+    let mut client: Client<P, R, D, H, J, G> = Client::new(way, seat, passage, connection);
     let outcome = serve_client(alloc, reader, writer, &mut client);
-    let seat = client.into_seat();
-    lock.lock(rt)
-        .close(history, seat, passage, reader, writer, &outcome);
-}
-
-/// Serves a connection that was opened, of which nothing came and nothing was written yet, by its
-/// passage, and closes it: the history then has its part, and what went through its ends. The
-/// handler hears this number of it.
-pub fn serve_opened<S: Source, W: Sink, R: Wait, D, H: SharedHandler<D>, J: Origin<D, H>>(
-    rt: &R,
-    alloc: Global,
-    history: &SharedHistory<J>,
-    lock: &Mutex<SharedDesk<D, H, J>>,
-    seat: ClientSeat<J>,
-    passage: Passage,
-    connection: u64,
-    reader: &mut S,
-    writer: &mut W,
-)
-    requires comes { J.comes passage }
-    requires source { (S.has_failed reader.old ≡ false) × (S.transcript reader.old ≡ []) }
-    requires sink { (W.has_failed writer.old ≡ false) × (W.transcript writer.old ≡ []) }
-    requires fresh { seat.part ≡ [] }
-{
-    serve_passed::<Brand, S, W, R, D, H, J>(
-        rt, alloc, history, lock, seat, passage, connection, reader, writer,
-    );
+    let Client { way, seat, .. } = client;
+    way.locked_desk()
+        .lock(way.handle())
+        .close_replies::<S, (), Client<P, R, D, H, J, G>, W>(
+            way.history(),
+            seat,
+            passage,
+            reader,
+            writer,
+            &outcome,
+        );
 }

@@ -12,6 +12,7 @@ use crate::passage::{Passage, PassageId};
 use crate::seats::{HistoryId, Origin};
 use crate::shared_handler::SharedHandler;
 use crate::shared_history::{ClientSeat, Opener, SharedHistory};
+use crate::way::LentDesk;
 use refusal::NoMemory;
 use std::alloc::Global;
 use std::marker::{Model, PhantomData};
@@ -115,8 +116,9 @@ pub fn serve_connection<S: Source, W: Sink, R: Wait, D, H: SharedHandler<D>, J: 
         seat,
         of: _,
     } = connection;
-    let mut client: Client<'_, R, D, H, J, ByPort> = Client::of(
-        rt, history, lock, seat, BY_PORT, UNNUMBERED,
+    let way = LentDesk::new(rt, history, lock);
+    let mut client: Client<LentDesk<'_, R, D, H, J>, R, D, H, J, ByPort> = Client::of(
+        way, seat, BY_PORT, UNNUMBERED,
     );
     let outcome = serve_client(alloc, &mut reader, &mut writer, &mut client);
     let seat = client.into_seat();

@@ -5,9 +5,10 @@ ghost use mathlib.Core.List.{IsPrefix};
 ghost use Rattle.shared_desk.specs.Histories.{Replays, part_of};
 ghost use Rattle.shared_desk.specs.Answered.{IsSharedAnswer, query_by};
 ghost use Rattle.shared_desk.specs.Closed as closed;
+ghost use Rattle.shared_desk.specs.declared.closed.ClosedConnection.{ClosedConnection};
 
 use crate::passage::Passage;
-use crate::seats::Origin;
+use crate::seats::{ClosingRule, Origin};
 use crate::shared_handler::SharedHandler;
 use crate::shared_history::{ClientSeat, Opener, Recorder, SharedHistory};
 use refusal::NoMemory;
@@ -15,7 +16,9 @@ use sessions::{DoorForm, Request};
 use std::alloc::Global;
 use std::marker::{Brand, Model};
 use std::snapshot::Snapshot;
-use streams::{PendingReply, PreparedRequest, Sink, Source, StreamFault};
+use streams::{
+    FrameHandler, Noted, PendingReply, PreparedRequest, ReplySink, Sink, Source, StreamFault,
+};
 
 /// A desk and its handler, with the history that leads to them, and the connections that are over.
 /// Contracts see it as the two, the history, and these connections, of which the last one stands
@@ -148,6 +151,28 @@ impl<D, H: SharedHandler<D>, J: Origin<D, H>> SharedDesk<D, H, J> {
         reply
     }
 
+    // A connection is over, by a rule that tells which one it is.
+    fn close_by<E: ClosingRule, S, W>(
+        &mut self,
+        history: &SharedHistory<J>,
+        seat: ClientSeat<J>,
+        passage: Passage,
+        reader: &S,
+        writer: &W,
+        outcome: &Result<u64, StreamFault>,
+    )
+        requires closes { (c : ClosedConnection) × E.closes c × (c.connection ≡ seat.number)
+            × (c.part ≡ seat.part) }
+        requires served { (c : ClosedConnection) → E.closes c → closed.IsServedWhole c
+            × J.comes c.passage × (c.outcome ≡ outcome.now) }
+        ensures same { (self.new.0 ≡ self.old.0) × (self.new.1 ≡ self.old.1) }
+        ensures over { (c : ClosedConnection) × E.closes c × (self.new.2 ≡ c ∷ self.old.2) }
+    {
+        history.close::<E, S, W>(seat, &mut self.recorder, passage, reader, writer, outcome);
+        self.outcome = earlier_fault(self.outcome, outcome);
+        self.over = self.over.saturating_add(1);
+    }
+
     /// A connection is over: its passage, its seat, its two ends, and how its stream ended.
     pub fn close<S: Source, W: Sink>(
         &mut self,
@@ -165,9 +190,27 @@ impl<D, H: SharedHandler<D>, J: Origin<D, H>> SharedDesk<D, H, J> {
         ensures over { self.new.2 ≡ closed.closed_of passage S.transcript S.is_over S.has_failed
             W.transcript W.has_failed seat reader.now writer.now outcome.now ∷ self.old.2 }
     {
-        history.close::<Brand, S, W>(seat, &mut self.recorder, passage, reader, writer, outcome);
-        self.outcome = earlier_fault(self.outcome, outcome);
-        self.over = self.over.saturating_add(1);
+        self.close_by::<Brand, S, W>(history, seat, passage, reader, writer, outcome);
+    }
+
+    /// The same of a connection whose replies went to a sink that lets them out.
+    pub fn close_replies<S: Source, A, C: FrameHandler<A>, W: ReplySink<A, C>>(
+        &mut self,
+        history: &SharedHistory<J>,
+        seat: ClientSeat<J>,
+        passage: Passage,
+        reader: &S,
+        sink: &W,
+        outcome: &Result<u64, StreamFault>,
+    )
+        requires comes { J.comes passage }
+        requires served { closed.IsServedWhole (closed.closed_of passage S.transcript S.is_over
+            S.has_failed W.transcript W.has_failed seat reader.now sink.now outcome.now) }
+        ensures same { (self.new.0 ≡ self.old.0) × (self.new.1 ≡ self.old.1) }
+        ensures over { self.new.2 ≡ closed.closed_of passage S.transcript S.is_over S.has_failed
+            W.transcript W.has_failed seat reader.now sink.now outcome.now ∷ self.old.2 }
+    {
+        self.close_by::<Brand, S, W>(history, seat, passage, reader, sink, outcome);
     }
 
     /// How many connections are over; it stays at `2^64 - 1`.
@@ -184,12 +227,34 @@ impl<D, H: SharedHandler<D>, J: Origin<D, H>> SharedDesk<D, H, J> {
         self.outcome
     }
 
-    /// What a connection knows is its part of the whole history.
+    /// What a connection knows is its part of the whole history, which begins with what it has seen.
     pub fn compare(&mut self, history: &SharedHistory<J>, seat: &mut ClientSeat<J>)
         ensures same { (seat.new ≡ seat.old) × (self.new ≡ self.old) }
         ensures own { part_of seat.old.number self.old.1 ≡ seat.old.part }
+        ensures later { IsPrefix seat.old.seen self.old.1 }
     {
         history.compare(seat, &mut self.recorder);
+    }
+
+    /// Notes what was recorded for the handler at a place, for a connection. The history, which leads
+    /// to that handler, begins with all that the connection has seen, and has its part.
+    pub fn note<M>(
+        &mut self,
+        history: &SharedHistory<J>,
+        seat: &mut ClientSeat<J>,
+        place: usize,
+        into: &mut M,
+    )
+    where
+        H: Noted<M>,
+        ensures same { (self.new ≡ self.old) × (seat.new ≡ seat.old) }
+        ensures later { IsPrefix seat.old.seen self.old.1 }
+        ensures own { part_of seat.old.number self.old.1 ≡ seat.old.part }
+        ensures legal { Replays H.answers J.begins self.old.1 self.old.0 }
+        ensures noted { H.covers place into.new self.old.0.1 }
+    {
+        self.compare(history, seat);
+        self.handler.note(place, into);
     }
 
     /// The history has no part of a connection that was not opened. Those that are over were opened,

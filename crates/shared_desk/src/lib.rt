@@ -20,12 +20,14 @@ mod desk;
 mod door;
 mod passage;
 mod shared_handler;
+mod way;
 
 pub use client::{Client, serve_client, serve_opened};
 pub use desk::SharedDesk;
 pub use door::Door;
 pub use passage::{Passage, PassageId};
 pub use shared_handler::SharedHandler;
+pub use way::{DeskWay, LentDesk};
 
 // many connections at once
 mod connections;

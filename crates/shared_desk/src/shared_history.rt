@@ -234,10 +234,11 @@ impl<J: HistoryId> SharedHistory<J> {
         recorder.seat = left;
     }
 
-    /// What a connection knows is its part of the whole history.
+    /// What a connection knows is its part of the whole history, which begins with what it has seen.
     pub fn compare(&self, seat: &mut ClientSeat<J>, recorder: &mut Recorder<J>)
         ensures same { (seat.new ≡ seat.old) × (recorder.new ≡ recorder.old) }
         ensures own { part_of seat.old.number recorder.old.0 ≡ seat.old.part }
+        ensures later { IsPrefix seat.old.seen recorder.old.0 }
     {
         let spare = self.table.shared.split_seat::<Spares>(&mut seat.seat);
         let held = mem::replace(&mut recorder.seat, spare);

@@ -1,23 +1,14 @@
 -- The steps that look at what was added and what is durable, and those that count records, keep the rule.
-use Rattle.std.proofs.Common.{◌≡◌, ◌≢◌, ◌==◌, ◌⊎◌, inl, inr, ℕ, ◌<◌, ◌≤◌, ◌+◌, max, leb, Bool, true, false, true≢false, List, [], ◌∷◌, ◌++◌, length, set, Some, refl, sym, ap, ◌∙◌, subst, ⊎_elim, zero, suc, arith, append_assoc}
+use Rattle.std.proofs.Common.{◌≡◌, ℕ, ◌≤◌, max, leb, Bool, true, false, List, ◌++◌, length, set, refl, sym, ap, ◌∙◌, subst, arith}
 use Rattle.std.specs.Prelude.{MatchBool, slice_index, slice_set}
 use Rattle.std.proofs.lemmas.Bool.{leb-true}
-use Rattle.std.proofs.lemmas.Bool.Decides.{nat_tests}
-use mathlib.Core.Option.{Option, none, some, some-ne-none, some-injective}
 use mathlib.Core.List.{IsPrefix}
-use lib.ListN.{get_elem?}
-use prog.Atomic.{either}
-use Rattle.atomic_table.specs.Table.{State, Me, Step, Act, keeps, takes, gives, Valid, homes_after, carried_after, put_back, rest, Allows, Enters}
-use Rattle.atomic_table.proofs.Lists.{at_set}
-use Rattle.journal_file.specs.FileLogs.{file_state}
-use Rattle.journal_file.specs.declared.file_log.FileLog.{FileLog}
-use Rattle.shared_journal.specs.declared.commit_log.CommitLog.{CommitLog}
+use Rattle.atomic_table.specs.Table.{Me, Step, Act, keeps, Valid, homes_after, carried_after, Allows}
 use Rattle.shared_journal.specs.declared.journal_part.JournalPart.{JournalPart}
 use Rattle.shared_journal.specs.declared.seat_views.JournalEntry.{JournalEntry}
 use Rattle.shared_journal.specs.declared.seat_views.JournalView.{JournalView}
-use Rattle.shared_journal.specs.JournalHistories.{entries_by, journal_bytes}
-use Rattle.shared_journal.specs.JournalRule.{JournalFacts, KeepsDurable, AreCounted, words_of, FitsJournal, IsJournal, journal_founder, own_entry, with_record, with_each_taken, held_bytes, Watches, TakesWaiting, TriesWaiting, StaysAsItIs, ReturnsWaiting, AddsRecord, TakesEach, TakesLog, TriesLog, SettlesLog, ReturnsLog, FailsIt, LooksAtIt, SeesEach, LooksAtEach, LooksAtDurable, FindsCount, CountsRecords}
-use Rattle.shared_journal.proofs.JournalLists.{whole_prefix, prefix_through, longer_prefix, same_rest, entries_own, entries_other, bytes_more, nothing_behind, set_length, more_length, there_below, at_end_or, prefix_length, shorter_prefix}
+use Rattle.shared_journal.specs.JournalRule.{JournalFacts, FitsJournal, IsJournal, StaysAsItIs, LooksAtEach, LooksAtDurable, FindsCount, CountsRecords}
+use Rattle.shared_journal.proofs.JournalLists.{whole_prefix, prefix_through, longer_prefix, prefix_length, shorter_prefix}
 use Rattle.shared_journal.proofs.JournalSteps.{each_set, others_set, set_fourth, set_added, set_durable, Journaling, stays}
 
 module _ (first : List ℕ) (slots id : ℕ) (me : Me JournalPart JournalView) (st : Step JournalPart) where

@@ -1,12 +1,10 @@
 -- What who follows a journal takes from it, step by step.
 use Rattle.std.proofs.Common.{◌≡◌, ℕ, Bool, true, false, true≢false, List, [], ◌∷◌, ◌++◌, Some, refl, sym, ap, ◌∙◌, subst}
-use Rattle.atomic_table.specs.Table.{Me, rest}
+use Rattle.atomic_table.specs.Table.{rest}
 use Rattle.journal_file.specs.declared.file_log.FileLog.{FileLog}
 use Rattle.shared_journal.specs.declared.commit_log.CommitLog.{CommitLog}
 use Rattle.shared_journal.specs.declared.journal_part.JournalPart.{JournalPart}
 use Rattle.shared_journal.specs.declared.seat_views.JournalEntry.{JournalEntry}
-use Rattle.shared_journal.specs.declared.seat_views.JournalView.{JournalView}
-use Rattle.shared_journal.specs.JournalHistories.{journal_bytes}
 use Rattle.shared_journal.specs.JournalRule.{AreCopies, IsFollower, HasCopies, KeepsDurable, TakesLog, with_copies}
 use Rattle.shared_journal.specs.Standing.{StandForJournal}
 use Rattle.shared_journal.proofs.JournalCalls.{Held, first_held, same_part, same_log, some_or, log_there, log_one, log_view}
@@ -38,8 +36,9 @@ gives_copied v y taken written copied put commits is has keeps none_left = (
   ),
 )
 
-pub number_held : (v y : Held) (taken written : List JournalEntry) (copied : List ℕ) (held : List (ℕ × JournalPart)) → ◌≡◌ {A = Held} y (log_view v.0 taken written copied, held) → v.0.number ≡ 0 → y.0.number ≡ 0
-number_held v y taken written copied held is zero = ap (λ (m : Held). m.0.number) is ∙ zero
+-- it is still the seat of who follows
+pub number_held : (v y : Held) (taken written : List JournalEntry) (copied : List ℕ) (held : List (ℕ × JournalPart)) → ◌≡◌ {A = Held} y (log_view v.0 taken written copied, held) → IsFollower v → (y.0.is_note ≡ false) × (y.0.number ≡ 0)
+number_held v y taken written copied held is follows = (ap (λ (m : Held). m.0.is_note) is ∙ follows.is_seat, ap (λ (m : Held). m.0.number) is ∙ follows.number)
 
 -- who follows holds nothing then
 pub follows_on : (v y z : Held) (taken written : List JournalEntry) (copied : List ℕ) (put : JournalPart) → ◌≡◌ {A = Held} y (log_view v.0 taken written copied, (1, put) ∷ v.1)
@@ -47,6 +46,7 @@ pub follows_on : (v y z : Held) (taken written : List JournalEntry) (copied : Li
 follows_on v y z taken written copied put is given follows =
     let here : ◌≡◌ {A = Held} z (with_copies (log_view v.0 taken written copied), v.1) = given ∙ ap (λ (m : Held). (with_copies m.0, rest m.1)) is in
     record {
+      is_seat = ap (λ (m : Held). m.0.is_note) here ∙ follows.is_seat;
       number = ap (λ (m : Held). m.0.number) here ∙ follows.number;
       no_waiting = ap (λ (m : Held). m.0.has_waiting) here ∙ follows.no_waiting;
       no_log = ap (λ (m : Held). m.0.has_log) here;
@@ -73,13 +73,13 @@ keeps_got v w t got commits there has =
     subst (KeepsDurable v.0.first t.taken t.written) (sym these) t.keeps
 
 -- what stands for the bytes that were given stands for those that the log knows of
-pub stands_for_copied : (v w : Held) (t : TakesLog v w) (bytes : List ℕ) → v.0.number ≡ 0 → StandForJournal bytes v.0.copied → StandForJournal bytes t.copied
-stands_for_copied v w t bytes zero stands = subst (StandForJournal bytes) (sym (t.follows zero)) stands
+pub stands_for_copied : (v w : Held) (t : TakesLog v w) (bytes : List ℕ) → IsFollower v → StandForJournal bytes v.0.copied → StandForJournal bytes t.copied
+stands_for_copied v w t bytes follows stands = subst (StandForJournal bytes) (sym (t.follows follows.is_seat follows.number)) stands
 
 -- the bytes that were given are those that weren't given before
 pub copies_given : (v w y z : Held) (t : TakesLog v w) (put got : JournalPart) → ◌≡◌ {A = Held} y (log_view v.0 t.taken t.written t.copied, (1, put) ∷ v.1)
-    → ◌≡◌ {A = Held} z (with_copies y.0, rest y.1) → v.0.number ≡ 0 → HasCopies v.0.first t.written t.copied got → got.is_followed ≡ true
+    → ◌≡◌ {A = Held} z (with_copies y.0, rest y.1) → IsFollower v → HasCopies v.0.first t.written t.copied got → got.is_followed ≡ true
     → z.0.copied ≡ v.0.copied ++ got.bytes.items
-copies_given v w y z t put got is given zero copies followed =
+copies_given v w y z t put got is given follows copies followed =
     ap (λ (m : Held). m.0.copied) (given ∙ ap (λ (m : Held). (with_copies m.0, rest m.1)) is)
-    ∙ (copies followed ∙ ap (λ (l : List ℕ). l ++ got.bytes.items) (t.follows zero))
+    ∙ (copies followed ∙ ap (λ (l : List ℕ). l ++ got.bytes.items) (t.follows follows.is_seat follows.number))

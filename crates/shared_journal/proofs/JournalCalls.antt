@@ -1,10 +1,8 @@
 -- What the calls of a journal come to, step by step.
-use Rattle.std.proofs.Common.{◌≡◌, ℕ, Bool, true, false, true≢false, ◌+◌, ◌≤◌, List, [], ◌∷◌, ◌++◌, length, Option, Some, None, Result, Ok, Err, refl, sym, ap, ◌∙◌, subst, arith, append_assoc}
-use Rattle.std.specs.Prelude.{OnOk, OnErr}
+use Rattle.std.proofs.Common.{◌≡◌, ℕ, Bool, true, false, true≢false, ◌+◌, ◌≤◌, List, [], ◌∷◌, ◌++◌, length, Option, Some, None, refl, sym, ap, ◌∙◌, subst, arith, append_assoc}
 use mathlib.Core.List.{IsPrefix}
 use Rattle.atomic_table.specs.Table.{Me, rest}
 use Rattle.journal.specs.Logs.{LogState}
-use Rattle.journal.specs.declared.log.LogFault.{LogFault}
 use Rattle.journal_file.specs.FileLogs.{file_state}
 use Rattle.journal_file.specs.declared.file_log.FileLog.{FileLog}
 use Rattle.shared_journal.specs.declared.commit_log.CommitLog.{CommitLog}

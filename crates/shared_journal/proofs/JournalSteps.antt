@@ -1,7 +1,6 @@
 -- Each step keeps the rule of a journal's table.
-use Rattle.std.proofs.Common.{◌≡◌, ◌≢◌, ◌==◌, ◌⊎◌, inl, inr, ℕ, ◌<◌, ◌≤◌, ◌+◌, max, leb, Bool, true, false, true≢false, List, [], ◌∷◌, ◌++◌, length, set, Some, refl, sym, ap, ◌∙◌, subst, ⊎_elim, zero, suc, arith, append_assoc}
+use Rattle.std.proofs.Common.{◌≡◌, ◌≢◌, ◌==◌, ◌⊎◌, inl, inr, ℕ, ◌<◌, ◌≤◌, ◌+◌, Bool, true, false, true≢false, List, [], ◌∷◌, ◌++◌, length, set, Some, refl, sym, ap, ◌∙◌, subst, ⊎_elim, zero, suc, arith, append_assoc}
 use Rattle.std.specs.Prelude.{MatchBool, slice_index, slice_set}
-use Rattle.std.proofs.lemmas.Bool.{leb-true}
 use Rattle.std.proofs.lemmas.Bool.Decides.{nat_tests}
 use mathlib.Core.Option.{Option, none, some, some-ne-none, some-injective}
 use mathlib.Core.List.{IsPrefix}
@@ -16,10 +15,10 @@ use Rattle.shared_journal.specs.declared.journal_part.JournalPart.{JournalPart}
 use Rattle.shared_journal.specs.declared.seat_views.JournalEntry.{JournalEntry}
 use Rattle.shared_journal.specs.declared.seat_views.JournalView.{JournalView}
 use Rattle.shared_journal.specs.JournalHistories.{entries_by, journal_bytes}
-use Rattle.shared_journal.specs.JournalRule.{JournalFacts, KeepsDurable, HasCopies, AreCounted, words_of, FitsJournal, IsJournal, journal_founder, own_entry, with_record, with_each_taken, held_bytes, Watches, TakesWaiting, TriesWaiting, StaysAsItIs, ReturnsWaiting, AddsRecord, TakesEach, TakesLog, TriesLog, SettlesLog, ReturnsLog, CopiesLog, with_copies, FailsIt, LooksAtIt, SeesEach, LooksAtEach, LooksAtDurable, FindsCount, CountsRecords}
+use Rattle.shared_journal.specs.JournalRule.{JournalFacts, KeepsDurable, HasCopies, words_of, FitsJournal, IsJournal, journal_founder, own_entry, with_record, with_each_taken, held_bytes, Watches, TakesWaiting, TriesWaiting, StaysAsItIs, ReturnsWaiting, AddsRecord, TakesEach, TakesLog, TriesLog, SettlesLog, ReturnsLog, CopiesLog, with_copies, FailsIt, LooksAtIt}
 use Rattle.shared_journal.specs.Standing.{StandForJournal}
 use Rattle.shared_journal.proofs.Standings.{stands_as_it_is}
-use Rattle.shared_journal.proofs.JournalLists.{whole_prefix, prefix_through, longer_prefix, same_rest, entries_own, entries_other, bytes_more, nothing_behind, set_length, more_length, there_below, at_end_or, prefix_length, shorter_prefix}
+use Rattle.shared_journal.proofs.JournalLists.{whole_prefix, prefix_through, longer_prefix, same_rest, entries_own, entries_other, bytes_more, nothing_behind, set_length, more_length, there_below, at_end_or, prefix_length}
 
 off : false ≡ true → ⊥
 off e = true≢false (sym e)
@@ -137,36 +136,42 @@ begins_journal first waiting log commits homes homes_are none_wait has goes whol
     one : (j : ℕ) (v : JournalView) → get_elem? (journal_founder first ∷ []) j ≡ some v → FitsJournal facts j v
     one zero v e =
         subst (FitsJournal facts 0) (some-injective _ _ e)
-        (record { number = refl; first = refl; seen = whole_prefix []; own = refl; durable = whole_prefix []; copied = λ e. refl; failed = λ t. absurd (off t); waiting = λ t. absurd (off t); log = λ t. absurd (off t) })
+        (record { number = λ e. refl; first = refl; seen = whole_prefix []; own = λ e. refl; durable = whole_prefix []; copied = λ e. refl; failed = λ t. absurd (off t); waiting = λ t. absurd (off t); log = λ t. absurd (off t) })
     one (suc j) v e = absurd (some-ne-none v (sym e))
+
+-- a seat comes that fits
+pub one_seat_more : (first : List ℕ) (s : State JournalPart JournalView) (kept : Journaling first s) (w : JournalView) → FitsJournal kept.facts (length s.views) w
+    → IsJournal first s.words s.homes (s.views ++ w ∷ [])
+one_seat_more first s kept w mine =
+    record {
+      facts = kept.facts;
+      begun = kept.begun;
+      words_are = kept.words_are;
+      waiting_home = kept.waiting_home;
+      log_home = kept.log_home;
+      homes_are = kept.homes_are;
+      split = kept.split;
+      synced = kept.synced;
+      counts = kept.counts;
+      waiting = kept.waiting;
+      log = kept.log;
+      each = λ j u e. ⊎_elim
+          (λ (was : get_elem? s.views j ≡ some u). kept.each j u was)
+          (λ (x : (j ≡ length s.views) × (w ≡ u)). subst (λ (y : ℕ × JournalView). FitsJournal kept.facts y.0 y.1) (λ i. (sym x.0 i, x.1 i)) mine)
+          (at_end_or s.views w u j e);
+      others = λ n le. kept.others n (omega (arith, more_length s.views w, le));
+    }
 
 -- a new seat has seen the whole history, and put nothing in
 pub watches : (slots : ℕ) (first : List ℕ) (st : Step JournalPart) (v : Me JournalPart JournalView) → v.0.first ≡ first
     → Enters (Journaling first) slots 2 (λ n w. Watches st v n (w, []))
 watches slots first st v begins s kept homes fits =
     let f = kept.facts in
-    let w : JournalView = record { number = length s.views; first = f.first; seen = f.added; own = []; durable = f.durable; is_failed = false; has_waiting = false; has_log = false; count = 0; taken = []; waits = []; written = []; copied = f.copied } in
-    let mine : FitsJournal f (length s.views) w = record { number = refl; first = refl; seen = whole_prefix f.added; own = kept.others (length s.views) (omega arith); durable = whole_prefix f.durable; copied = λ e. refl; failed = λ t. absurd (off t); waiting = λ t. absurd (off t); log = λ t. absurd (off t) } in (
+    let w : JournalView = record { number = length s.views; first = f.first; seen = f.added; own = []; durable = f.durable; is_failed = false; has_waiting = false; has_log = false; count = 0; taken = []; waits = []; written = []; copied = f.copied; is_note = false } in
+    let mine : FitsJournal f (length s.views) w = record { number = λ e. refl; first = refl; seen = whole_prefix f.added; own = λ e. kept.others (length s.views) (omega arith); durable = whole_prefix f.durable; copied = λ e. refl; failed = λ t. absurd (off t); waiting = λ t. absurd (off t); log = λ t. absurd (off t) } in (
       w,
-      record {
-        facts = f;
-        begun = kept.begun;
-        words_are = kept.words_are;
-        waiting_home = kept.waiting_home;
-        log_home = kept.log_home;
-        homes_are = kept.homes_are;
-        split = kept.split;
-        synced = kept.synced;
-        counts = kept.counts;
-        waiting = kept.waiting;
-        log = kept.log;
-        each = λ j u e. ⊎_elim
-            (λ (was : get_elem? s.views j ≡ some u). kept.each j u was)
-            (λ (x : (j ≡ length s.views) × (w ≡ u)). subst (λ (y : ℕ × JournalView). FitsJournal f y.0 y.1) (λ i. (sym x.0 i, x.1 i)) mine)
-            (at_end_or s.views w u j e);
-        others = λ n le. kept.others n (omega (arith, more_length s.views w, le));
-      },
-      (kept.begun ∙ sym begins, refl, refl, refl, refl),
+      one_seat_more first s kept w mine,
+      (kept.begun ∙ sym begins, refl, refl, refl, refl, refl, kept.others (length s.views) (omega arith)),
     )
 
 module _ (first : List ℕ) (slots id : ℕ) (me : Me JournalPart JournalView) (st : Step JournalPart) where
@@ -362,7 +367,7 @@ module _ (first : List ℕ) (slots id : ℕ) (me : Me JournalPart JournalView) (
               waits = f.waits;
               bytes = home.2;
               seen = subst (λ (l : List JournalEntry). IsPrefix me.0.seen l) kept.split mine.seen;
-              own = subst (λ (l : List JournalEntry). entries_by me.0.number l ≡ me.0.own) kept.split (ap (λ (n : ℕ). entries_by n f.added) mine.number ∙ mine.own);
+              own = λ e. subst (λ (l : List JournalEntry). entries_by me.0.number l ≡ me.0.own) kept.split (ap (λ (n : ℕ). entries_by n f.added) (mine.number e) ∙ mine.own e);
               same = λ e. sym (mine.log e).2;
               is = refl;
             },
@@ -445,7 +450,7 @@ module _ (first : List ℕ) (slots id : ℕ) (me : Me JournalPart JournalView) (
               keeps = subst (λ (l : List ℕ). KeepsDurable l f.taken f.durable home.1) (sym mine.first) home.4;
               copies = subst (λ (l : List ℕ). HasCopies l f.durable f.copied part) (sym mine.first) home.5;
               durable = mine.durable;
-              follows = λ e. sym (mine.copied (inl (sym mine.number ∙ e)));
+              follows = λ e z. sym (mine.copied (inl (sym (mine.number e) ∙ z)));
               is = refl;
             },
           )
@@ -506,10 +511,10 @@ module _ (first : List ℕ) (slots id : ℕ) (me : Me JournalPart JournalView) (
       )
 
   -- those that wait are given back with a record behind them
-  pub adds_record : (part : JournalPart) (bytes : List ℕ) → me.0.has_waiting ≡ true → me.1 ≡ (0, part) ∷ rest me.1 → part.bytes.items ≡ journal_bytes me.0.waits ++ bytes
+  pub adds_record : (part : JournalPart) (bytes : List ℕ) → me.0.is_note ≡ false → me.0.has_waiting ≡ true → me.1 ≡ (0, part) ∷ rest me.1 → part.bytes.items ≡ journal_bytes me.0.waits ++ bytes
       → me.0.count ≡ length (me.0.taken ++ me.0.waits) + 1
       → Allows (Journaling first) slots id me 0 (λ n. 0) (AddsRecord st me)
-  adds_record part bytes holding has are counted s kept homes at fits =
+  adds_record part bytes is_seat holding has are counted s kept homes at fits =
       let f = kept.facts in
       let e : JournalEntry = own_entry me.0 bytes in
       let g : JournalFacts = record f { waiting_word = 0; added = f.added ++ e ∷ []; waits = f.waits ++ e ∷ [] } in
@@ -518,7 +523,7 @@ module _ (first : List ℕ) (slots id : ℕ) (me : Me JournalPart JournalView) (
       let w : JournalView = with_record me.0 e in
       let all : me.0.taken ++ me.0.waits ≡ f.added = (λ i. held.2 i ++ held.3 i) ∙ sym kept.split in
       let longer : f.added_word ≡ length (f.added ++ e ∷ []) = sym held.4 ∙ (counted ∙ (ap (λ (l : List JournalEntry). length l + 1) all ∙ sym (one_more f.added e))) in
-      let own : entries_by id (f.added ++ e ∷ []) ≡ me.0.own ++ e ∷ [] = entries_own id f.added e mine.number ∙ ap (λ (l : List JournalEntry). l ++ e ∷ []) mine.own in (
+      let own : entries_by id (f.added ++ e ∷ []) ≡ me.0.own ++ e ∷ [] = entries_own id f.added e (mine.number is_seat) ∙ ap (λ (l : List JournalEntry). l ++ e ∷ []) (mine.own is_seat) in (
         w,
         gives,
         tt,
@@ -539,7 +544,7 @@ module _ (first : List ℕ) (slots id : ℕ) (me : Me JournalPart JournalView) (
                 number = t.number;
                 first = t.first;
                 seen = longer_prefix u.seen f.added (e ∷ []) t.seen;
-                own = entries_other j f.added e (λ same. apart (sym same ∙ mine.number)) ∙ t.own;
+                own = λ z. entries_other j f.added e (λ same. apart (sym same ∙ mine.number is_seat)) ∙ t.own z;
                 durable = t.durable;
                 copied = t.copied;
                 failed = t.failed;
@@ -550,7 +555,7 @@ module _ (first : List ℕ) (slots id : ℕ) (me : Me JournalPart JournalView) (
                 number = mine.number;
                 first = mine.first;
                 seen = subst (λ (l : List JournalEntry). IsPrefix (l ++ e ∷ []) (f.added ++ e ∷ [])) (sym all) (whole_prefix (f.added ++ e ∷ []));
-                own = own;
+                own = λ z. own;
                 durable = mine.durable;
                 copied = mine.copied;
                 failed = mine.failed;
@@ -558,13 +563,13 @@ module _ (first : List ℕ) (slots id : ℕ) (me : Me JournalPart JournalView) (
                 log = mine.log;
               });
           others = others_set (f.added ++ e ∷ []) s.views id w
-              (λ n le. entries_other n f.added e (λ same. below_apart id n (length s.views) (there_below s.views id me.0 at) le (sym mine.number ∙ same)) ∙ kept.others n le);
+              (λ n le. entries_other n f.added e (λ same. below_apart id n (length s.views) (there_below s.views id me.0 at) le (sym (mine.number is_seat) ∙ same)) ∙ kept.others n le);
         },
         record {
           entry = e;
           by = refl;
           behind = ap held_bytes has ∙ are;
-          own = ap (λ (n : ℕ). entries_by n ((me.0.taken ++ me.0.waits) ++ e ∷ [])) mine.number ∙ (ap (λ (l : List JournalEntry). entries_by id (l ++ e ∷ [])) all ∙ own);
+          own = ap (λ (n : ℕ). entries_by n ((me.0.taken ++ me.0.waits) ++ e ∷ [])) (mine.number is_seat) ∙ (ap (λ (l : List JournalEntry). entries_by id (l ++ e ∷ [])) all ∙ own);
           is = refl;
         },
       )
@@ -711,10 +716,10 @@ module _ (first : List ℕ) (slots id : ℕ) (me : Me JournalPart JournalView) (
       )
 
   -- the log is given back, and all that is durable was given to who follows
-  pub copies_log : (part : JournalPart) (commits : CommitLog FileLog) → me.0.number ≡ 0 → me.0.has_log ≡ true → me.1 ≡ (1, part) ∷ rest me.1 → part.commits ≡ Some commits
+  pub copies_log : (part : JournalPart) (commits : CommitLog FileLog) → me.0.is_note ≡ false → me.0.number ≡ 0 → me.0.has_log ≡ true → me.1 ≡ (1, part) ∷ rest me.1 → part.commits ≡ Some commits
       → KeepsDurable me.0.first me.0.taken me.0.written commits → part.bytes.items ≡ []
       → Allows (Journaling first) slots id me 1 (λ n. 0) (CopiesLog st me)
-  copies_log part commits follows logging has is_some whole none_left s kept homes at fits =
+  copies_log part commits is_seat follows logging has is_some whole none_left s kept homes at fits =
       let f = kept.facts in
       let g : JournalFacts = record f { log_word = 0; copied = f.first ++ journal_bytes f.durable } in
       let mine = kept.each id me.0 at in
@@ -756,7 +761,7 @@ module _ (first : List ℕ) (slots id : ℕ) (me : Me JournalPart JournalView) (
       another j u apart t e =
           let mine = kept.each id me.0 at in
           ⊎_elim
-          (λ (first_seat : j ≡ 0). apart (first_seat ∙ (sym follows ∙ mine.number)))
+          (λ (first_seat : j ≡ 0). apart (first_seat ∙ (sym follows ∙ mine.number is_seat)))
           (λ (z : u.has_log ≡ true). apart ((t.log z).1 ∙ sym (mine.log logging).1))
           e
 

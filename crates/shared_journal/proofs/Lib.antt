@@ -1,7 +1,9 @@
 pub mod JournalLists
 pub mod Standings
 pub mod JournalSteps
+pub mod NoteSteps
 pub mod CountSteps
 pub mod JournalCalls
 pub mod FollowSteps
+pub mod Queues
 pub mod Replays

@@ -1,5 +1,5 @@
 -- A desk to which records lead, and more of them.
-use Rattle.std.proofs.Common.{◌≡◌, ◌≤◌, ℕ, Bool, true, false, true≢false, List, ◌++◌, length, take, refl, sym, ap, ◌∙◌, arith}
+use Rattle.std.proofs.Common.{◌≡◌, ℕ, Bool, true, false, List, ◌++◌, length, take, refl, sym, ◌∙◌, arith}
 use mathlib.Core.Bool.{not}
 use Rattle.std.proofs.lemmas.List.{take_all}
 use Rattle.journal.specs.Records.{journal_of}

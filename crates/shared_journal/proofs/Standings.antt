@@ -1,5 +1,5 @@
 -- Bytes that stand for a journal's do so with the same bytes behind both.
-use Rattle.std.proofs.Common.{◌≡◌, ◌⊎◌, inl, inr, ℕ, List, [], ◌++◌, refl, sym, ap, ◌∙◌, append_assoc}
+use Rattle.std.proofs.Common.{◌≡◌, inl, inr, ℕ, List, [], ◌++◌, refl, sym, ap, ◌∙◌, append_assoc}
 use Rattle.shared_journal.specs.Standing.{StandForJournal, AreSnapshotFor}
 use Rattle.shared_journal.proofs.JournalLists.{nothing_behind}
 

@@ -25,10 +25,11 @@ pub record ReplayedDesk : Type 0 where
   pub is_lost : Bool
 
 -- who follows a journal: the bytes of it that were replayed so far, unless its desk is lost; whether
--- the journal has failed; and how many bytes its file has
+-- the journal has failed; how many bytes its file has; and from how many on it is compacted
 pub record FollowerView : Type 0 where
   pub journal : JournalName
   pub copied : List ℕ
   pub is_lost : Bool
   pub has_failed : Bool
   pub len : ℕ
+  pub next : ℕ

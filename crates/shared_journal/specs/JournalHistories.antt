@@ -29,6 +29,20 @@ pub record JournalKnowledge : Type 0 where
   pub durable : List JournalEntry
   pub has_failed : Bool
 
+-- What a note knows of a journal: a beginning of its history, a beginning of what is durable, and
+-- whether the journal has failed.
+pub record NoteKnowledge : Type 0 where
+  pub journal : JournalName
+  pub seen : List JournalEntry
+  pub durable : List JournalEntry
+  pub has_failed : Bool
+
+-- The note knows all that this seat had seen, and among it each record that the seat put in.
+pub record IsNoteOf (note : NoteKnowledge) (seat : JournalKnowledge) : Type 0 where
+  pub journal : note.journal ≡ seat.journal
+  pub seen : IsPrefix seat.seen note.seen
+  pub own : entries_by seat.number seat.seen ≡ seat.own
+
 -- The knowledge of who follows a journal: the bytes of it that were given so far, and whether it has
 -- failed.
 pub record FollowerKnowledge : Type 0 where

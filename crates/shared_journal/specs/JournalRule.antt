@@ -1,5 +1,5 @@
 -- The rule of the table of a journal's history, and what its steps do.
-use Rattle.std.specs.Prelude.{◌≡◌, ◌≢◌, ◌⊎◌, ◌≤◌, ◌+◌, ◌==◌, leb, ℕ, Bool, true, false, List, [], ◌∷◌, ◌++◌, length, Some, MatchBool}
+use Rattle.std.specs.Prelude.{◌≡◌, ◌≢◌, ◌⊎◌, ◌≤◌, ◌==◌, leb, ℕ, Bool, true, false, List, [], ◌∷◌, ◌++◌, length, Some, MatchBool}
 use mathlib.Core.Option.{Option, some}
 use mathlib.Core.List.{IsPrefix}
 use lib.ListN.{get_elem?}
@@ -29,6 +29,7 @@ journal_founder first = record {
   waits = [];
   written = [];
   copied = [];
+  is_note = false;
 }
 
 -- ---- the rule
@@ -100,12 +101,12 @@ words_of facts =
     facts.waiting_word ∷ facts.log_word ∷ facts.failed_word ∷ facts.added_word
     ∷ facts.durable_word ∷ []
 
--- what the view at a seat says is so
+-- what the view at a seat says is so, where of its number and its own records a note says nothing
 pub record FitsJournal (facts : JournalFacts) (seat : ℕ) (v : JournalView) : Type 0 where
-  pub number : v.number ≡ seat
+  pub number : v.is_note ≡ false → v.number ≡ seat
   pub first : v.first ≡ facts.first
   pub seen : IsPrefix v.seen facts.added
-  pub own : entries_by seat facts.added ≡ v.own
+  pub own : v.is_note ≡ false → entries_by seat facts.added ≡ v.own
   pub durable : IsPrefix v.durable facts.durable
   pub failed : v.is_failed ≡ true → facts.failed_word ≢ 0
   pub waiting : v.has_waiting ≡ true
@@ -137,11 +138,22 @@ pub record IsJournal (first words : List ℕ) (homes : List (Option JournalPart)
 
 -- ---- the steps
 
--- a seat that is new: it has put nothing in, and holds nothing
+-- a seat that is new: it has put nothing in, has seen no record of its own, and holds nothing
 abbrev pub Watches : {S : Type 0} → Step S → Me S JournalView → ℕ → Me S JournalView → Type 0
 Watches s v found w =
     (w.0.first ≡ v.0.first) × (w.0.own ≡ []) × (w.0.is_failed ≡ false)
-    × (w.0.has_waiting ≡ false) × (w.0.has_log ≡ false)
+    × (w.0.has_waiting ≡ false) × (w.0.has_log ≡ false) × (w.0.is_note ≡ false)
+    × (entries_by w.0.number w.0.seen ≡ [])
+
+-- a seat that is a note of nothing
+abbrev pub IsBlankNote : {S : Type 0} → Step S → Me S JournalView → ℕ → Me S JournalView → Type 0
+IsBlankNote s v found w =
+    (w.0.first ≡ v.0.first) × (w.0.seen ≡ []) × (w.0.durable ≡ []) × (w.0.is_failed ≡ false)
+    × (w.0.has_waiting ≡ false) × (w.0.has_log ≡ false) × (w.0.is_note ≡ true)
+
+-- a note of what a seat had seen
+abbrev pub noted_view : JournalView → JournalView
+noted_view v = record v { is_note = true }
 
 -- The seat holds the records that wait: it knows the whole history, which begins with all that it
 -- had seen, its own records in it, and their number.
@@ -151,7 +163,7 @@ pub record TakesWaiting (v w : Me JournalPart JournalView) : Type 0 where
   pub waits : List JournalEntry
   pub bytes : part.bytes.items ≡ journal_bytes waits
   pub seen : IsPrefix v.0.seen (taken ++ waits)
-  pub own : entries_by v.0.number (taken ++ waits) ≡ v.0.own
+  pub own : v.0.is_note ≡ false → entries_by v.0.number (taken ++ waits) ≡ v.0.own
   pub same : v.0.has_log ≡ true → taken ≡ v.0.taken
   pub is : w ≡ (
     record v.0 {
@@ -223,7 +235,7 @@ pub record TakesLog (v w : Me JournalPart JournalView) : Type 0 where
   pub keeps : KeepsDurable v.0.first taken written commits
   pub copies : HasCopies v.0.first written copied part
   pub durable : IsPrefix v.0.durable written
-  pub follows : v.0.number ≡ 0 → copied ≡ v.0.copied
+  pub follows : v.0.is_note ≡ false → v.0.number ≡ 0 → copied ≡ v.0.copied
   pub is : w ≡ (
     record v.0 { has_log = true; taken = taken; written = written; copied = copied },
     (1, part) ∷ v.1,
@@ -243,6 +255,7 @@ ReturnsLog s v found w = w ≡ (record v.0 { has_log = false }, rest v.1)
 
 -- the seat is that of who follows the journal, and holds nothing
 pub record IsFollower {S : Type 0} (v : Me S JournalView) : Type 0 where
+  pub is_seat : v.0.is_note ≡ false
   pub number : v.0.number ≡ 0
   pub no_waiting : v.0.has_waiting ≡ false
   pub no_log : v.0.has_log ≡ false

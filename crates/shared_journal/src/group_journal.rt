@@ -7,8 +7,8 @@ use journal::LogFault;
 use std::sync::Wait;
 
 /// Makes all durable that was put into it. Only a call tells that a commit was made, or that it has
-/// failed. Each call gives the seat by which it was made, which knows that all that it has seen is
-/// durable, or that the journal has failed.
+/// failed. It gives the seat by which it was made, which knows that all that it has seen is durable, or
+/// that the journal has failed.
 pub trait GroupJournal {
     ghost use Rattle.shared_journal.specs.JournalHistories.{JournalName};
 
@@ -17,9 +17,6 @@ pub trait GroupJournal {
 
     // All that it had taken was made durable.
     ghost committed: { Self → Type 0 };
-
-    // It was looked at, and had not failed.
-    ghost sound: { Self → Type 0 };
 
     // It told that it has failed.
     ghost failed: { Self → Type 0 };
@@ -30,12 +27,5 @@ pub trait GroupJournal {
         ensures seen { MatchResult result.1 (λ _. result.0.durable ≡ result.0.seen)
             (λ _. result.0.has_failed ≡ true) }
         ensures committed { OnOk result.1 (committed self.now) }
-        ensures failed { OnErr result.1 (failed self.now) };
-
-    /// Looks whether it has failed. Nothing is waited for.
-    fn look(&self) -> (JournalSeat, Result<(), LogFault>)
-        ensures own { result.0.journal ≡ name self.now }
-        ensures seen { OnErr result.1 (result.0.has_failed ≡ true) }
-        ensures sound { OnOk result.1 (sound self.now) }
         ensures failed { OnErr result.1 (failed self.now) };
 }

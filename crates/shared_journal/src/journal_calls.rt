@@ -48,7 +48,8 @@ pub(crate) fn put_record<R: Wait>(
     seat: &mut PartSeat,
     bytes: &[u8],
 ) -> Result<(), NoMemory>
-    requires { seat.old.table_id ≡ history.now.table }
+    requires table { seat.old.table_id ≡ history.now.table }
+    requires is_seat { seat.old.me.0.is_note ≡ false }
     ensures same { (seat.new.table_id ≡ seat.old.table_id) × (seat.new.id ≡ seat.old.id) }
     ensures ok { OnOk result (rule.PutsRecord seat.old.me bytes.now seat.new.me) }
     ensures err { OnErr result (rule.SeesWaiting seat.old.me seat.new.me) }

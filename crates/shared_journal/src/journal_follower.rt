@@ -1,6 +1,6 @@
 //! Who follows a journal, and puts a snapshot in the place of its first records.
 
-ghost use Rattle.std.specs.Prelude.{◌≡◌, ◌<◌, ◌*◌, ◌++◌, ℕ, List, [], Err, true, false, length, IfOk};
+ghost use Rattle.std.specs.Prelude.{◌≡◌, ◌<◌, ◌*◌, ◌++◌, ℕ, List, [], Err, true, false, length, nat_le, IfOk};
 ghost use Rattle.shared_journal.specs.Standing.{AreSnapshotFor, StandForJournal};
 ghost use Rattle.shared_journal.specs.declared.journal_follower.Compaction.TheVariants as came_to;
 ghost use Rattle.shared_journal.specs.declared.journal_follower.NotReplaced.TheVariants as not_replaced;
@@ -79,6 +79,7 @@ impl Model for JournalFollower {
       is_lost = f.desk.is_lost;
       has_failed = f.seat.has_failed;
       len = f.len;
+      next = f.next;
     } };
 
     ghost invariant = { λ f. f.desk.is_lost ≡ false → f.desk.replayed ≡ f.seat.copied };
@@ -125,7 +126,9 @@ impl JournalFollower {
     }
 
     /// Whether the journal is to be compacted: it has doubled since, and isn't small.
-    pub fn is_due(&self) -> bool {
+    pub fn is_due(&self) -> bool
+        ensures { result ≡ nat_le self.now.next self.now.len }
+    {
         self.len >= self.next
     }
 

@@ -13,9 +13,9 @@ ghost use Rattle.journal_file.specs.declared.file_log.FileLog.{FileLog};
 use crate::commit_log::CommitLog;
 use crate::journal_part::JournalPart;
 use crate::seat_views::{
-    CopyStep, CountLook, CountStep, DurableLook, DurableNote, EachLook, FailingStep, FailureLook,
-    JournalView, LogReturn, LogTry, OneJournal, RecordStep, SettlingStep, SleepMark, TakingStep,
-    WaitingReturn, WaitingTry, Watching,
+    BlankNote, CopyStep, CountLook, CountStep, DurableLook, DurableNote, EachLook, FailingStep,
+    FailureLook, JournalView, LogReturn, LogTry, NoteSplit, OneJournal, RecordStep, SettlingStep,
+    SleepMark, TakingStep, WaitingReturn, WaitingTry, Watching,
 };
 use atomic_table::{Seat, Table};
 use journal_file::FileLog;
@@ -80,7 +80,30 @@ impl Model for JournalSeat {
     } };
 
     ghost invariant = { λ s. (s.seat.me.0.has_waiting ≡ false) × (s.seat.me.0.has_log ≡ false)
-        × (s.seat.me.1 ≡ []) };
+        × (s.seat.me.1 ≡ []) × (s.seat.me.0.is_note ≡ false) };
+}
+
+/// What a seat had seen of a journal: a beginning of its history. It puts nothing in, and has no bytes.
+#[derive(Drop)]
+pub(crate) struct NoteSeat {
+    pub(crate) seat: Seat<JournalPart, JournalView>,
+}
+
+impl Model for NoteSeat {
+    ghost use Rattle.std.specs.Prelude.{◌≡◌, [], false, true};
+    ghost use Rattle.shared_journal.specs.JournalHistories.{NoteKnowledge};
+
+    ghost Value = { NoteKnowledge };
+
+    ghost view = { λ n. record {
+      journal = record { table = n.seat.table_id; first = n.seat.me.0.first };
+      seen = n.seat.me.0.seen;
+      durable = n.seat.me.0.durable;
+      has_failed = n.seat.me.0.is_failed;
+    } };
+
+    ghost invariant = { λ n. (n.seat.me.0.has_waiting ≡ false) × (n.seat.me.0.has_log ≡ false)
+        × (n.seat.me.1 ≡ []) × (n.seat.me.0.is_note ≡ true) };
 }
 
 /// The knowledge of who follows a journal: the bytes of it that were given so far, and whether it has
@@ -128,16 +151,15 @@ impl Model for JournalTable {
 }
 
 impl JournalTable {
-    /// A journal without records, over a log of which all is durable, and the seat of who follows it,
-    /// if it is followed: these bytes, which the log has, are the first to be given.
+    /// A journal without records, over a log of which all is durable, and the seat of who follows it:
+    /// these bytes, which the log has, are the first to be given.
     pub fn new(
         alloc: Global,
         log: FileLog,
         bytes: Vec<u8>,
-        is_followed: bool,
     ) -> Result<(JournalTable, FollowerSeat), NoMemory>
         requires none_pending { (file_state log).pending ≡ [] }
-        requires followed { is_followed ≡ true → bytes.items ≡ (file_state log).durable }
+        requires followed { bytes.items ≡ (file_state log).durable }
         ensures first { IfOk result (λ made. made.0.first ≡ (file_state log).durable) }
         ensures seat { IfOk result (λ made. (made.1.journal ≡ made.0) × (made.1.copied ≡ [])) }
     {
@@ -152,7 +174,7 @@ impl JournalTable {
             bytes,
             commits: Some(CommitLog::new(alloc, log)),
             batch: 0,
-            is_followed,
+            is_followed: true,
         };
         let mut parts = Vec::with_capacity(alloc, 2)?;
         parts.push_reserved(waiting);
@@ -165,10 +187,32 @@ impl JournalTable {
 
     /// A seat that has put nothing in.
     pub fn watch(&self) -> JournalSeat
-        ensures { (result.journal ≡ self.now) × (result.own ≡ []) × (result.has_failed ≡ false) }
+        ensures new { (result.journal ≡ self.now) × (result.own ≡ []) × (result.has_failed ≡ false) }
+        ensures none { history.entries_by result.number result.seen ≡ [] }
     {
         let (_, seat) = self.table.shared.load_new_seat::<Watching>(FAILED);
         JournalSeat { seat }
+    }
+
+    /// A note of nothing.
+    pub fn blank_note(&self) -> NoteSeat
+        ensures { (result.journal ≡ self.now) × (result.seen ≡ []) × (result.durable ≡ [])
+            × (result.has_failed ≡ false) }
+    {
+        let (_, seat) = self.table.shared.load_new_seat::<BlankNote>(FAILED);
+        NoteSeat { seat }
+    }
+
+    /// A note of all that the seat has seen.
+    pub fn note(&self, seat: &mut JournalSeat) -> NoteSeat
+        requires { seat.old.journal ≡ self.now }
+        ensures same { seat.new ≡ seat.old }
+        ensures journal { result.journal ≡ self.now }
+        ensures noted { (result.seen ≡ seat.old.seen) × (result.durable ≡ seat.old.durable)
+            × (result.has_failed ≡ seat.old.has_failed) }
+    {
+        let noted = self.table.shared.split_seat::<NoteSplit>(&mut seat.seat);
+        NoteSeat { seat: noted }
     }
 
     /// Whether the journal has failed, told to nobody's seat.
@@ -439,6 +483,7 @@ impl JournalTable {
     /// Gives them back with a record behind them.
     pub fn return_record(&self, seat: &mut PartSeat, bytes: &[u8])
         requires table { seat.old.table_id ≡ self.now.table }
+        requires is_seat { seat.old.me.0.is_note ≡ false }
         requires held { (seat.old.me.0.has_waiting ≡ true) × ((part : JournalPart)
             × (seat.old.me.1 ≡ (0, part) ∷ table.rest seat.old.me.1)
             × (part.bytes.items ≡ history.journal_bytes seat.old.me.0.waits ++ bytes.now)) }
@@ -522,7 +567,7 @@ impl JournalTable {
     /// is durable than before.
     pub fn return_copied(&self, seat: &mut PartSeat)
         requires table { seat.old.table_id ≡ self.now.table }
-        requires follows { seat.old.me.0.number ≡ 0 }
+        requires follows { (seat.old.me.0.is_note ≡ false) × (seat.old.me.0.number ≡ 0) }
         requires held { (seat.old.me.0.has_log ≡ true) × ((part : JournalPart)
             × (commits : CommitLog FileLog)
             × (seat.old.me.1 ≡ (1, part) ∷ table.rest seat.old.me.1)

@@ -17,9 +17,13 @@ pub use journal_table::JournalSeat;
 
 // the journal itself
 mod group_journal;
+mod group_note;
+mod journal_note;
 mod shared_journal;
 
 pub use group_journal::GroupJournal;
+pub use group_note::{GroupNote, NoteMaker};
+pub use journal_note::JournalNote;
 pub use shared_journal::SharedJournal;
 
 // who follows it, and puts a snapshot in the place of its first records
@@ -42,9 +46,7 @@ mod reply_sync;
 pub use each_journal::commit_each;
 pub use reply_sync::ReplySync;
 
-// what puts records into it, and what writes replies behind them
-mod committing_sink;
+// what puts records into it
 mod journal_queue;
 
-pub use committing_sink::CommittingSink;
 pub use journal_queue::JournalQueue;

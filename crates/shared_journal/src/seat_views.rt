@@ -1,7 +1,7 @@
 //! What each seat of a journal knows, and the kinds of step.
 
 use crate::journal_part::JournalPart;
-use atomic_table::{Play, TableRule};
+use atomic_table::{Play, Split, TableRule};
 use journal_file::FileLog;
 use std::collections::LinkedList;
 use std::snapshot::Snapshot;
@@ -18,7 +18,7 @@ pub struct JournalEntry {
 /// records, a beginning of what is durable, whether the journal failed, and how many records it
 /// counted last. While it holds a part it knows the records that were taken, and those that wait,
 /// or those that the log has. Who holds the log or follows the journal knows the bytes that were
-/// given to who follows it.
+/// given to who follows it. It may be a note of what another seat had seen, and puts nothing in then.
 pub struct JournalView {
     pub number: u64,
     pub first: LinkedList<u8>,
@@ -33,6 +33,7 @@ pub struct JournalView {
     pub waits: LinkedList<JournalEntry>,
     pub written: LinkedList<JournalEntry>,
     pub copied: LinkedList<u8>,
+    pub is_note: bool,
 }
 
 /// There is one history of a journal.
@@ -54,6 +55,26 @@ impl Play<JournalPart, JournalView> for Watching {
     ghost use Rattle.shared_journal.specs.JournalRule.{Watches};
 
     ghost then = { Watches };
+}
+
+/// A new seat that is a note of nothing.
+pub(crate) struct BlankNote;
+
+impl Play<JournalPart, JournalView> for BlankNote {
+    ghost use Rattle.shared_journal.specs.JournalRule.{IsBlankNote};
+
+    ghost then = { IsBlankNote };
+}
+
+/// A note of what a seat had seen.
+pub(crate) struct NoteSplit;
+
+impl Split<JournalView> for NoteSplit {
+    ghost use Rattle.shared_journal.specs.JournalRule.{noted_view};
+
+    ghost left = { λ v. v };
+
+    ghost right = { noted_view };
 }
 
 /// A try to hold the records that wait.

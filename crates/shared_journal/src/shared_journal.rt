@@ -1,13 +1,14 @@
 //! A journal that many threads write to.
 
 ghost use Rattle.std.specs.Prelude.{◌≡◌, [], false, true, IfOk, MatchBool, OnErr, OnOk};
+ghost use mathlib.Core.List.{IsPrefix};
 ghost use Rattle.journal_file.specs.FileLogs.{file_state};
-ghost use Rattle.shared_journal.specs.JournalHistories.{HasAddedRecord, HasCommitted, HasStopped, KnowsTheSame};
+ghost use Rattle.shared_journal.specs.JournalHistories.{HasAddedRecord, HasCommitted, HasStopped, KnowsTheSame, entries_by};
 
 use crate::group_journal::GroupJournal;
 use crate::journal_calls::{commit_all, put_record, reserve_room};
 use crate::journal_follower::JournalFollower;
-use crate::journal_table::{JournalSeat, JournalTable};
+use crate::journal_table::{JournalSeat, JournalTable, NoteSeat};
 use journal::LogFault;
 use journal_file::FileLog;
 use refusal::NoMemory;
@@ -23,8 +24,8 @@ use std::sync::Wait;
 /// It has one history, in proofs alone: the records that were added, in order, of which a beginning
 /// is durable. Each thread has a seat, which knows a beginning of the history. A record that a seat
 /// adds stands behind all that the seat knew, once; and all that it knew is durable behind its
-/// commit. What waits and what the log has are tied to the history by the rule of a table,
-/// whichever thread holds them.
+/// commit, or behind that of a note of what the seat has seen. What waits and what the log has are
+/// tied to the history by the rule of a table, whichever thread holds them.
 ///
 /// A server has one for each desk. Its place is that of the desk whose changes it keeps: so clauses
 /// tell one journal from another.
@@ -36,22 +37,9 @@ pub struct SharedJournal {
 }
 
 impl SharedJournal {
-    /// A journal of the desk at a place, over a log of which all is durable.
-    pub fn new(alloc: Global, place: usize, log: FileLog) -> Result<SharedJournal, NoMemory>
-        requires { (file_state log).pending ≡ [] }
-        ensures place { IfOk result (λ journal. journal.place ≡ place) }
-        ensures first { IfOk result (λ journal. journal.history.first ≡ (file_state log).durable) }
-    {
-        let (history, _) = JournalTable::new(alloc, log, Vec::new(alloc), false)?;
-        Ok(SharedJournal {
-            place,
-            alloc,
-            history,
-        })
-    }
-
-    /// The same, with who follows it. The log has these bytes.
-    pub fn followed(
+    /// A journal of the desk at a place, over a log that has these bytes, all of them durable, and who
+    /// follows it.
+    pub fn new(
         alloc: Global,
         place: usize,
         log: FileLog,
@@ -64,13 +52,20 @@ impl SharedJournal {
             × (made.1.is_lost ≡ false)) }
     {
         let len = bytes.len();
-        let (history, seat) = JournalTable::new(alloc, log, bytes, true)?;
+        let (history, seat) = JournalTable::new(alloc, log, bytes)?;
         let journal = SharedJournal {
             place,
             alloc,
             history,
         };
         Ok((journal, JournalFollower::new(alloc, seat, len)))
+    }
+
+    /// The place of the desk whose changes it keeps.
+    pub fn place(&self) -> usize
+        ensures { result ≡ self.now.place }
+    {
+        self.place
     }
 
     // The history of what was added.
@@ -82,10 +77,31 @@ impl SharedJournal {
 
     /// A seat for a thread, which has added nothing.
     pub fn watch(&self) -> JournalSeat
-        ensures { (result.journal ≡ self.now.history) × (result.own ≡ [])
+        ensures new { (result.journal ≡ self.now.history) × (result.own ≡ [])
             × (result.has_failed ≡ false) }
+        ensures none { entries_by result.number result.seen ≡ [] }
     {
         self.history.watch()
+    }
+
+    /// A note of nothing, for a place to put notes into.
+    pub(crate) fn blank_note(&self) -> NoteSeat
+        ensures { (result.journal ≡ self.now.history) × (result.seen ≡ []) × (result.durable ≡ [])
+            × (result.has_failed ≡ false) }
+    {
+        self.history.blank_note()
+    }
+
+    /// A note of all that the seat has seen.
+    pub(crate) fn note(&self, seat: &mut JournalSeat) -> NoteSeat
+        requires { seat.old.journal ≡ self.now.history }
+        ensures same { seat.new ≡ seat.old }
+        ensures journal { result.journal ≡ self.now.history }
+        ensures seen { result.seen ≡ seat.old.seen }
+        ensures durable { result.durable ≡ seat.old.durable }
+        ensures has_failed { result.has_failed ≡ seat.old.has_failed }
+    {
+        self.history.note(seat)
     }
 
     /// Whether it has failed. From then on no commit answers `Ok`, and no record is taken.
@@ -129,6 +145,40 @@ impl SharedJournal {
         Ok(())
     }
 
+    /// Commits a note: makes all records durable that were added before, and so all that it knows.
+    /// After an error none that follows answers `Ok`, and the note knows that the journal has failed.
+    pub(crate) fn commit_noted<R: Wait>(&self, rt: &R, note: &mut NoteSeat) -> Result<(), LogFault>
+        requires { note.old.journal ≡ self.now.history }
+        ensures same { note.new.journal ≡ note.old.journal }
+        ensures seen { IsPrefix note.old.seen note.new.seen }
+        ensures ok { OnOk result (note.new.durable ≡ note.new.seen) }
+        ensures went_on { OnOk result (note.old.has_failed ≡ false) }
+        ensures stopped { OnErr result (note.new.has_failed ≡ true) }
+    {
+        if commit_all(rt, self.alloc, &self.history, &mut note.seat).is_err() {
+            self.history.fail(&mut note.seat);
+            return Err(LogFault);
+        }
+        if self.history.is_failed(&mut note.seat) {
+            return Err(LogFault);
+        }
+        Ok(())
+    }
+
+    /// Looks whether it has failed, as the note then says.
+    pub(crate) fn look_noted(&self, note: &mut NoteSeat) -> Result<(), LogFault>
+        requires { note.old.journal ≡ self.now.history }
+        ensures same { (note.new.journal ≡ note.old.journal) × (note.new.seen ≡ note.old.seen)
+            × (note.new.durable ≡ note.old.durable) }
+        ensures sound { OnOk result (note.old.has_failed ≡ false) }
+        ensures failed { OnErr result (note.new.has_failed ≡ true) }
+    {
+        match self.history.is_failed(&mut note.seat) {
+            true => Err(LogFault),
+            false => Ok(()),
+        }
+    }
+
     /// Makes room for so many bytes more among those that wait. A journal that has failed has none.
     pub fn reserve<R: Wait>(
         &self,
@@ -164,9 +214,6 @@ impl GroupJournal for SharedJournal {
     // The seat that is given knows it.
     ghost committed = { λ _. Unit {0} };
 
-    // A look tells of its moment alone.
-    ghost sound = { λ _. Unit {0} };
-
     // The seat that is given knows it.
     ghost failed = { λ _. Unit {0} };
 
@@ -174,13 +221,5 @@ impl GroupJournal for SharedJournal {
         let mut seat = self.watch();
         let committed = self.commit(rt, &mut seat);
         (seat, committed)
-    }
-
-    fn look(&self) -> (JournalSeat, Result<(), LogFault>) {
-        let mut seat = self.watch();
-        if self.is_failed(&mut seat) {
-            return (seat, Err(LogFault));
-        }
-        (seat, Ok(()))
     }
 }

@@ -1,4 +1,5 @@
 pub mod Serving
+pub mod LettingGo
 pub mod Reading
 pub mod Passed
 pub mod Answered

@@ -1,6 +1,7 @@
 pub mod Faults
 pub mod Serves
 pub mod Stops
+pub mod LettingGo
 pub mod Unanswered
 pub mod Hearing
 pub mod Fronts

@@ -13,11 +13,13 @@ mod batch;
 mod fault;
 mod frame_handler;
 mod handler;
+mod reply_sink;
 mod serve;
 
 pub use fault::StreamFault;
 pub use frame_handler::{FrameHandler, hear_payload};
 pub use handler::{Handler, TellingHandler};
+pub use reply_sink::ReplySink;
 pub use serve::serve_stream;
 
 // the answers of a desk and a runner
@@ -39,6 +41,11 @@ pub use pending_reply::{PendingReply, written_frame};
 pub use prepared_request::{PreparedRequest, covers_credit, prepare, wants_admission};
 pub use runner::Runner;
 pub use submit_refusal::SubmitRefusal;
+
+// what a note of a desk's records covers
+mod noted;
+
+pub use noted::Noted;
 
 // what went through an end of a stream, in proofs alone
 mod transcript;

@@ -6,11 +6,13 @@ ghost use Rattle.sessions.specs.Session.{unread, ended_by};
 ghost use Rattle.streams.specs.Serves.{Serves};
 ghost use Rattle.streams.specs.Stops.{IsGivenUp, IsGrown, IsLastUnwritten, IsServed, IsStoppedBy, IsUnwritten, too_large_reply};
 ghost use Rattle.streams.specs.Fronts.{TakesFront};
+ghost use Rattle.streams.specs.LettingGo.{LetsGoBut};
 
 use crate::batch::{put_reply, write_batch};
 use crate::fault::StreamFault;
 use crate::frame_handler::FrameHandler;
-use crate::source_and_sink::{Sink, Source, write_all};
+use crate::reply_sink::ReplySink;
+use crate::source_and_sink::Source;
 use bytes::BytesMut;
 use refusal::NoMemory;
 use sessions::{Reply, Session, SessionFault, reply_frame};
@@ -44,7 +46,7 @@ fn take_front(session: &mut Session) -> Result<NextFrame, NoMemory>
 }
 
 // Answers one frame, by a reply that waits behind others.
-fn answer_one<W: Sink, D, H: FrameHandler<D>>(
+fn answer_one<D, H: FrameHandler<D>, W: ReplySink<D, H>>(
     alloc: Global,
     writer: &mut W,
     batch: &mut Vec<u8>,
@@ -66,16 +68,23 @@ fn answer_one<W: Sink, D, H: FrameHandler<D>>(
     ensures well { OnOk result (W.has_failed writer.new ≡ false) }
     ensures write_failed { result ≡ Err StreamFault.WriteFailed → W.has_failed writer.new ≡ true }
     ensures no_memory { result ≡ Err StreamFault.NoMemory → W.has_failed writer.new ≡ false }
+    ensures let_go { OnOk result ((first : W)
+        → W.lets_go first (writer.old, handler.old) batch.old.items
+        → W.lets_go first (writer.new, handler.new) batch.new.items) }
+    ensures given_up { IfErr result (λ fault. (first : W)
+        → W.lets_go first (writer.old, handler.old) batch.old.items
+        → LetsGoBut fault (W.lets_go first) (writer.new, handler.new) batch.new.items) }
 {
+    writer.lets_wait();
     let reply = handler.answer_payload(alloc, desk, payload)?;
-    match put_reply(writer, batch, &reply) {
+    match put_reply(writer, batch, handler, &reply) {
         Ok(()) => Ok(()),
         Err(_) => Err(StreamFault::WriteFailed),
     }
 }
 
 // Answers each whole frame. Replies may still wait then. `false`: a length is over the limit.
-fn answer_frames<W: Sink, D, H: FrameHandler<D>>(
+fn answer_frames<D, H: FrameHandler<D>, W: ReplySink<D, H>>(
     alloc: Global,
     session: &mut Session,
     writer: &mut W,
@@ -105,6 +114,11 @@ fn answer_frames<W: Sink, D, H: FrameHandler<D>>(
     ensures goes_on { IfOk result (λ goes_on. IsTrue goes_on → ended_by session.new ≡ None) }
     ensures write_failed { result ≡ Err StreamFault.WriteFailed → W.has_failed writer.new ≡ true }
     ensures no_memory { result ≡ Err StreamFault.NoMemory → W.has_failed writer.new ≡ false }
+    ensures let_go { OnOk result ((first : W) → W.lets_go first (writer.old, handler.old) []
+        → W.lets_go first (writer.new, handler.new) batch.new.items) }
+    ensures given_up { IfErr result (λ fault. (first : W)
+        → W.lets_go first (writer.old, handler.old) []
+        → LetsGoBut fault (W.lets_go first) (writer.new, handler.new) batch.new.items) }
 {
     'frames: loop {
         let frame = match take_front(session)? {
@@ -118,7 +132,7 @@ fn answer_frames<W: Sink, D, H: FrameHandler<D>>(
 }
 
 // Answers each whole frame, and writes the replies together. `false`: a length is over the limit.
-fn answer_together<W: Sink, D, H: FrameHandler<D>>(
+fn answer_together<D, H: FrameHandler<D>, W: ReplySink<D, H>>(
     alloc: Global,
     session: &mut Session,
     writer: &mut W,
@@ -148,12 +162,16 @@ fn answer_together<W: Sink, D, H: FrameHandler<D>>(
     ensures write_failed { result ≡ Err StreamFault.WriteFailed → W.has_failed writer.new ≡ true }
     ensures no_memory { result ≡ Err StreamFault.NoMemory → W.has_failed writer.new ≡ false }
     ensures no_other { result ≢ Err StreamFault.ReadFailed }
+    ensures let_go { OnOk result ((first : W) → W.lets_go first (writer.old, handler.old) []
+        → W.lets_go first (writer.new, handler.new) []) }
+    ensures given_up { OnErr result ((first : W) → W.lets_go first (writer.old, handler.old) []
+        → (left : List ℕ) × W.lets_go first (writer.new, handler.new) left) }
 {
     let answered = answer_frames(alloc, session, writer, batch, desk, handler, number);
     if let Err(StreamFault::WriteFailed) = answered {
         return answered;
     }
-    match write_batch(writer, batch) {
+    match write_batch(writer, batch, handler) {
         Ok(()) => answered,
         Err(_) => Err(StreamFault::WriteFailed),
     }
@@ -161,7 +179,7 @@ fn answer_together<W: Sink, D, H: FrameHandler<D>>(
 
 // Takes a piece that came, and answers each frame that is whole now. `false`: a length is over the
 // limit.
-fn take_piece<W: Sink, D, H: FrameHandler<D>>(
+fn take_piece<D, H: FrameHandler<D>, W: ReplySink<D, H>>(
     alloc: Global,
     session: &mut Session,
     piece: &[u8],
@@ -193,6 +211,10 @@ fn take_piece<W: Sink, D, H: FrameHandler<D>>(
     ensures write_failed { result ≡ Err StreamFault.WriteFailed → W.has_failed writer.new ≡ true }
     ensures no_memory { result ≡ Err StreamFault.NoMemory → W.has_failed writer.new ≡ false }
     ensures no_other { result ≢ Err StreamFault.ReadFailed }
+    ensures let_go { OnOk result ((first : W) → W.lets_go first (writer.old, handler.old) []
+        → W.lets_go first (writer.new, handler.new) []) }
+    ensures given_up { OnErr result ((first : W) → W.lets_go first (writer.old, handler.old) []
+        → (left : List ℕ) × W.lets_go first (writer.new, handler.new) left) }
 {
     match session.feed(piece) {
         Ok(()) => answer_together(alloc, session, writer, batch, desk, handler, number),
@@ -201,7 +223,10 @@ fn take_piece<W: Sink, D, H: FrameHandler<D>>(
 }
 
 // Answers a length over the limit.
-fn refuse_length<W: Sink>(alloc: Global, writer: &mut W) -> Result<(), StreamFault>
+fn refuse_length<D, H: FrameHandler<D>, W: ReplySink<D, H>>(
+    alloc: Global,
+    writer: &mut W,
+) -> Result<(), StreamFault>
     requires { W.has_failed writer.old ≡ false }
     ensures ok { OnOk result (W.transcript writer.new ≡ W.transcript writer.old
         ++ too_large_reply) }
@@ -211,6 +236,9 @@ fn refuse_length<W: Sink>(alloc: Global, writer: &mut W) -> Result<(), StreamFau
     ensures write_failed { result ≡ Err StreamFault.WriteFailed → W.has_failed writer.new ≡ true }
     ensures no_memory { result ≡ Err StreamFault.NoMemory → W.has_failed writer.new ≡ false }
     ensures no_other { result ≢ Err StreamFault.ReadFailed }
+    ensures let_go { (first : W) (handler : H) (waits : List ℕ)
+        → W.lets_go first (writer.old, handler) waits
+        → W.has_let_go first (writer.new, handler) too_large_reply }
 {
     let refusal = Reply::Refused {
         code: 71,
@@ -221,7 +249,7 @@ fn refuse_length<W: Sink>(alloc: Global, writer: &mut W) -> Result<(), StreamFau
         Ok(reply) => reply,
         Err(NoMemory) => return Err(StreamFault::NoMemory),
     };
-    match write_all(writer, &reply) {
+    match writer.write_last(&reply) {
         Ok(()) => Ok(()),
         Err(_) => Err(StreamFault::WriteFailed),
     }
@@ -235,11 +263,13 @@ fn refuse_length<W: Sink>(alloc: Global, writer: &mut W) -> Result<(), StreamFau
 /// last frame that is cut short is answered by nothing. A length over the limit is answered 71,
 /// once, which isn't counted, and nothing more is read.
 ///
+/// Replies are written by the sink's own rule (`write_replies`): what was written may go out then.
+///
 /// 83 where the reader failed: every frame that it gave whole is answered, by its whole reply. 84
 /// where the writer failed: within the replies of a piece, or the last 71. 99 where a piece, a frame or a
 /// reply found no memory, and neither has failed: what was written are whole replies. The desk is
 /// that after the requests that were heard.
-pub fn serve_stream<R: Source, W: Sink, D, H: FrameHandler<D>>(
+pub fn serve_stream<R: Source, D, H: FrameHandler<D>, W: ReplySink<D, H>>(
     alloc: Global,
     reader: &mut R,
     writer: &mut W,
@@ -265,6 +295,8 @@ pub fn serve_stream<R: Source, W: Sink, D, H: FrameHandler<D>>(
         × (W.has_failed writer.new ≡ false) }
     ensures well { OnOk result ((R.has_failed reader.new ≡ false)
         × (W.has_failed writer.new ≡ false)) }
+    ensures let_go { (first : W) → W.lets_go first (writer.old, handler.old) []
+        → W.has_let_go first (writer.new, handler.new) too_large_reply }
 {
     let mut session = Session::new(alloc);
     let mut batch = Vec::new(alloc);
@@ -289,7 +321,7 @@ pub fn serve_stream<R: Source, W: Sink, D, H: FrameHandler<D>>(
             &mut number,
         )?;
         if !goes_on {
-            refuse_length(alloc, writer)?;
+            refuse_length::<D, H, W>(alloc, writer)?;
             return Ok(number);
         }
     }

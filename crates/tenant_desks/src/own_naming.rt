@@ -8,7 +8,7 @@ use sessions::{DoorForm, JobKey, Request};
 use shared_desk::{Passage, SharedHandler};
 use std::alloc::Global;
 use std::marker::Model;
-use streams::{PendingReply, PreparedRequest};
+use streams::{Noted, PendingReply, PreparedRequest};
 
 /// Puts the name of a door's own tenant into a request that leaves it out, and has the handler answer
 /// that. Contracts see the handler.
@@ -73,5 +73,14 @@ impl<H: SharedHandler<TenantDesks>> KeyedHandler for OwnNaming<H> {
         _key: Option<&JobKey>,
     ) -> Result<PendingReply, NoMemory> {
         self.answer_by(alloc, desk, passage, request, None)
+    }
+}
+
+/// A note covers what the handler has recorded.
+impl<M, H: Noted<M>> Noted<M> for OwnNaming<H> {
+    ghost covers = { λ place note n. H.covers place note n };
+
+    fn note(&mut self, place: usize, into: &mut M) {
+        self.handler.note(place, into);
     }
 }

@@ -9,7 +9,7 @@ use sessions::{DoorForm, Request};
 use shared_desk::{Passage, SharedHandler};
 use std::alloc::Global;
 use std::marker::Model;
-use streams::{PendingReply, PreparedRequest};
+use streams::{Noted, PendingReply, PreparedRequest};
 
 /// Answers what a door hears beyond the plain protocol, and has the handler answer all plain requests.
 /// Each door remembers the keys of its last 1,000 keyed jobs: a submit by one of them is told the
@@ -67,5 +67,14 @@ impl<H: KeyedHandler> SharedHandler<TenantDesks> for TenantDoors<H> {
                 answer_form(alloc, handler, keys, desk, passage, request, form)
             }
         }
+    }
+}
+
+/// A note covers what the handler has recorded.
+impl<M, H: Noted<M>> Noted<M> for TenantDoors<H> {
+    ghost covers = { λ place note d. H.covers place note d.handler };
+
+    fn note(&mut self, place: usize, into: &mut M) {
+        self.handler.note(place, into);
     }
 }

@@ -23,7 +23,7 @@ use std::marker::Model;
 use std::sync::Wait;
 use std::time::Clock;
 use streams::{
-    PendingReply, PreparedRequest, Runner, SubmitRefusal, TellingHandler, covers_credit,
+    Noted, PendingReply, PreparedRequest, Runner, SubmitRefusal, TellingHandler, covers_credit,
 };
 
 /// Answers each request at the desk that it goes to, by one runner of all jobs, and then has that
@@ -194,4 +194,11 @@ impl<R: Wait + Clock, N: Runner> SharedHandler<TenantDesks> for TenantHandler<'_
         tell_answer(self.rt, self.log, refusal, granted_among(desk, note));
         reply
     }
+}
+
+/// It records nothing, so there is nothing to be noted.
+impl<M, R, N> Noted<M> for TenantHandler<'_, R, N> {
+    ghost covers = { λ _ _ _. Unit {0} };
+
+    fn note(&mut self, _place: usize, _into: &mut M) {}
 }

@@ -8,6 +8,12 @@ use Rattle.tenant_desks.specs.Routing.{place_behind}
 use Rattle.desk_recorder.specs.Recording.{IsRecorded, RecordsMore, keyed_taken}
 use Rattle.desk_recorder.specs.declared.recorder.ChangeRecorder.{ChangeRecorder}
 
+-- of a note: it covers all that was recorded for the desk at this place, if that has a recorder
+abbrev pub CoversDeskAt : {Q M : Type 0} → (ℕ → M → Q → Type 0) → ℕ → M → List (ChangeRecorder Q)
+    → Type 0
+CoversDeskAt {Q} covers place note recorders = (recorder : ChangeRecorder Q)
+    → slice_get recorders place ≡ Some recorder → covers place note recorder.queue
+
 -- a recorder of this queue that goes on, and has noted that the desk may have changed
 pub record IsNewRecorder {Q : Type 0} (queue : Q) (recorder : ChangeRecorder Q) : Type 0 where
   pub same : recorder.queue ≡ queue

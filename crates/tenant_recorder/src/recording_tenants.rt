@@ -3,7 +3,7 @@
 use crate::desk_answers::answer_among;
 use crate::desk_credits::credit_each;
 use crate::desk_restarts::restart_each;
-use crate::recorders::recorders_of;
+use crate::recorders::{note_at, recorders_of};
 use accounts::KeepLimits;
 use desk_journal::OpenJob;
 use desk_recorder::{ChangeRecorder, RecordQueue};
@@ -15,7 +15,7 @@ use std::alloc::Global;
 use std::marker::Model;
 use std::sync::Wait;
 use std::time::Clock;
-use streams::{PendingReply, PreparedRequest, Runner};
+use streams::{Noted, PendingReply, PreparedRequest, Runner};
 use tenant_desks::{
     KeyedHandler, PlacedRunner, TenantDesks, granted_among, noted_grant_among, refuse,
     wants_admission_among,
@@ -220,5 +220,16 @@ impl<R: Wait + Clock, N: Runner, Q: RecordQueue> KeyedHandler
         key: Option<&JobKey>,
     ) -> Result<PendingReply, NoMemory> {
         self.answer(alloc, desk, passage, request, key)
+    }
+}
+
+/// A note covers the records that the recorder of the desk at a place has put into its queue.
+impl<M, R, N, Q: RecordQueue + Noted<M>> Noted<M> for RecordingTenantHandler<'_, R, N, Q> {
+    ghost use Rattle.tenant_recorder.specs.Recorders.{CoversDeskAt};
+
+    ghost covers = { λ place note h. CoversDeskAt Q.covers place note h.recorders };
+
+    fn note(&mut self, place: usize, into: &mut M) {
+        note_at(&mut self.recorders, place, into);
     }
 }

@@ -1,13 +1,27 @@
-use Rattle.std.proofs.Common.{ℕ, List, inl, ap, map, sym, string_bytes, ◌∙◌, Option, String, Vec, Global}
+use Rattle.std.proofs.Common.{◌≡◌, ℕ, List, inl, ap, length, map, sym, string_bytes, ◌∙◌, Option, String, Vec, Global, arith}
+use Rattle.std.proofs.lemmas.List.{length-map}
 use Rattle.desk_journal.specs.declared.journaled_desk.OpenJob.{OpenJob}
 use Rattle.job_pools.specs.LineBounded.{new_by_line, starts_by_line}
 use Rattle.job_server.specs.Recorded.{queue_journal, queue_taken, queue_told}
 use Rattle.job_server.specs.TenantLimits.{door_limits}
 use Rattle.job_server.specs.TenantRecorded.{desks_of, open_jobs_of, recovered_tenancy}
 use Rattle.job_server.specs.TenantServing.{door_credits}
+use Rattle.job_server.specs.declared.tenant_door.TenantDoor.{TenantDoor}
 use Rattle.job_server.proofs.DeskStarts.{begun_as}
 use Rattle.job_server.proofs.TenantRestarting.{tenants_restarted}
 use Rattle.job_server.proofs.serving_tenants_recorded.serve_tenants_recorded.Goals as goal
+
+pub grant_first-requires-clause-tenants : goal.grant_first-requires-clause-tenants
+grant_first-requires-clause-tenants g c =
+    let tenants = c.in-Ok-credits_of.tenants.items in
+    let said : String Global × Option ℕ → List ℕ × Option ℕ = λ x. (string_bytes x.0, x.1) in
+    let credit : TenantDoor → List ℕ × Option ℕ = λ d. (string_bytes d.name, d.credit) in
+    let credits = sym (length-map tenants said) ∙ ap length c.in-Ok-credits_of.ensures ∙ length-map c.args.plan.tenants.now credit in
+    let lent = ap length c.deref.ensures.value in
+    let desks = c.in-Ok.ensures.count.0 in
+    let states = c.requires.states in
+    let journals = c.requires.journals in
+    omega (arith, credits, lent, desks, states, journals)
 
 pub returns : goal.returns
 returns g c =

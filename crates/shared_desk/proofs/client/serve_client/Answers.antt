@@ -6,7 +6,7 @@ use Rattle.shared_desk.proofs.client.serve_client.Goals as goal
 
 pub returns-clause-served : goal.returns-clause-served
 returns-clause-served g c =
-    served_client g.G.PassageId.passage g.H.SharedHandler.answers g.J.Origin.begins g.S.Source.transcript g.S.Source.is_over g.S.Source.has_failed g.W.Sink.transcript g.W.Sink.has_failed
+    served_client g.G.PassageId.passage g.H.SharedHandler.answers g.J.Origin.begins g.S.Source.transcript g.S.Source.is_over g.S.Source.has_failed g.W.ReplySink.transcript g.W.ReplySink.has_failed
     ((c.args.reader.now, c.args.writer.now), c.args.client.now)
     ((c.serve_stream-served.new.reader, c.serve_stream-served.new.writer), c.serve_stream-served.new.handler)
     _

@@ -1,4 +1,3 @@
-use Rattle.std.proofs.Common.{◌≡◌}
 use Rattle.shared_journal.proofs.Standings.{stands_with_more}
 use Rattle.shared_journal.proofs.laws.restarts_go_on.Goals as goal
 

@@ -14,7 +14,7 @@ short_piece n piece within all = omega (arith, length-take-le n piece within, wi
 
 pub reads-init : goal.reads-init
 reads-init g c =
-    let P : List ℕ → Type 0 = λ left. Serves g.H.FrameHandler.answers (c.args.desk.now, c.args.handler.now) [] (g.W.Sink.transcript c.args.writer.now) 0 (c.args.desk.now, c.args.handler.now) left (g.W.Sink.transcript c.args.writer.now) in
+    let P : List ℕ → Type 0 = λ left. Serves g.H.FrameHandler.answers (c.args.desk.now, c.args.handler.now) [] (g.W.ReplySink.transcript c.args.writer.now) 0 (c.args.desk.now, c.args.handler.now) left (g.W.ReplySink.transcript c.args.writer.now) in
     let fresh = c.new-session.ensures.unread in
     record {
       served = ([], 0, sym (append-nil (g.R.Source.transcript c.args.reader.now)), subst P (sym fresh) none_yet, refl, omega arith);
@@ -24,6 +24,7 @@ reads-init g c =
       source = c.requires.source;
       sink = c.requires.sink;
       ready = c.requires.ready;
+      let_go = λ first go. go;
     }
 
 pub returns-in-Err-clause-stopped : goal.returns-in-Err-clause-stopped
@@ -67,7 +68,7 @@ returns-then-not-goes_on-clause-served g c =
       record {
         count = before.1 + next.0;
         left = unread c.take_piece.new.session;
-        out = g.W.Sink.transcript c.take_piece.new.writer;
+        out = g.W.ReplySink.transcript c.take_piece.new.writer;
         frames = serves_on g.H.FrameHandler.answers _ _ _ _ _ _ _ _ _ _ _ (serves_more g.H.FrameHandler.answers _ _ _ piece _ _ _ _ before.3) next.1;
         counts = counted_on before.1 next.0 _ (let is = before.4 in rw (← is) next.2);
         last = ends_too_large _ _ _ (search rules) c.in_ok-refuse_length.ensures.ok;
@@ -96,6 +97,7 @@ reads-preserved g c =
       source = c.in-Ok.ensures.failed;
       sink = c.in_ok-goes_on.ensures.well;
       ready = c.in_ok-goes_on.ensures.ready;
+      let_go = λ first go. c.in_ok-goes_on.ensures.let_go first (c.reads.invariant.let_go first go);
     }
 
 pub returns-then-count-eq0-clause-served : goal.returns-then-count-eq0-clause-served

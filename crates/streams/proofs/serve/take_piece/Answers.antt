@@ -6,7 +6,7 @@ use Rattle.streams.proofs.serve.take_piece.Goals as goal
 
 pub returns-in-Err-clause-stopped : goal.returns-in-Err-clause-stopped
 returns-in-Err-clause-stopped g c =
-    let written = g.W.Sink.transcript c.args.writer.now in
+    let written = g.W.ReplySink.transcript c.args.writer.now in
     let P : List ℕ → Type 0 = λ out. IsStarved g.H.FrameHandler.answers (c.args.desk.now, c.args.handler.now) (unread c.args.session.now ++ c.args.piece.now) written (c.args.desk.now, c.args.handler.now) out in
     subst P (sym (append-nil written)) (between 0 _ _ _ none_yet)
 

@@ -3,5 +3,5 @@ use Rattle.shared_desk.specs.Closed.{closed_of}
 use Rattle.shared_desk.proofs.desk.SharedDesk.close.Given as goal
 
 -- what went through the two ends
-abbrev pub ghosts-close : goal.ghosts-close
-ghosts-close g a = record { closes = λ c. c ≡ closed_of a.passage g.S.Source.transcript g.S.Source.is_over g.S.Source.has_failed g.W.Sink.transcript g.W.Sink.has_failed a.seat a.reader.now a.writer.now a.outcome.now }
+abbrev pub ghosts-close_by : goal.ghosts-close_by
+ghosts-close_by g a = record { closes = λ c. c ≡ closed_of a.passage g.S.Source.transcript g.S.Source.is_over g.S.Source.has_failed g.W.Sink.transcript g.W.Sink.has_failed a.seat a.reader.now a.writer.now a.outcome.now }

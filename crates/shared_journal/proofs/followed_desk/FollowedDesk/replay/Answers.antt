@@ -1,4 +1,3 @@
-use Rattle.std.proofs.Common.{◌≡◌, false}
 use Rattle.shared_journal.proofs.Replays.{lead_on, not_denied}
 use Rattle.shared_journal.proofs.followed_desk.FollowedDesk.replay.Goals as goal
 

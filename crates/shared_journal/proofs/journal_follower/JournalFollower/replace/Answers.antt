@@ -1,4 +1,4 @@
-use Rattle.std.proofs.Common.{◌≡◌, sym, subst}
+use Rattle.std.proofs.Common.{sym, subst}
 use Rattle.shared_journal.specs.Standing.{AreSnapshotFor}
 use Rattle.shared_journal.proofs.Standings.{snapshot_stands}
 use Rattle.shared_journal.proofs.journal_follower.JournalFollower.replace.Goals as goal

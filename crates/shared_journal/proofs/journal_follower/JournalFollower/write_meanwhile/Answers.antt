@@ -1,4 +1,4 @@
-use Rattle.std.proofs.Common.{◌≡◌, ◌∙◌, ◌++◌, ap, sym}
+use Rattle.std.proofs.Common.{◌∙◌, ◌++◌, ap}
 use Rattle.shared_journal.proofs.Standings.{stands_with_taken}
 use Rattle.shared_journal.proofs.journal_follower.JournalFollower.write_meanwhile.Goals as goal
 

@@ -8,5 +8,5 @@ pub swap-found-requires : goal.swap-found-requires
 swap-found-requires c = let held = c.requires.held in (
   c.requires.table ∙ sym (ap (λ n. n.table) c.self.view_is),
   (let n = c.self.invariant.0 in omega arith),
-  copies_log _ _ _ _ (step c.self.inside.table.shared.table_id.slots 1 0 0 none) held.1.0 held.1.1 c.requires.follows held.0 held.1.2 held.1.3 held.1.4 held.1.5,
+  copies_log _ _ _ _ (step c.self.inside.table.shared.table_id.slots 1 0 0 none) held.1.0 held.1.1 c.requires.follows.0 c.requires.follows.1 held.0 held.1.2 held.1.3 held.1.4 held.1.5,
 )

@@ -8,7 +8,7 @@ pub swap-found-requires : goal.swap-found-requires
 swap-found-requires c = let held = c.requires.held in (
   c.requires.table ∙ sym (ap (λ n. n.table) c.self.view_is),
   (let n = c.self.invariant.0 in omega arith),
-  adds_record _ _ _ _ (step c.self.inside.table.shared.table_id.slots 0 0 0 none) held.1.0 c.args.bytes.now held.0 held.1.1 held.1.2 c.requires.counted,
+  adds_record _ _ _ _ (step c.self.inside.table.shared.table_id.slots 0 0 0 none) held.1.0 c.args.bytes.now c.requires.is_seat held.0 held.1.1 held.1.2 c.requires.counted,
 )
 
 pub returns-clause-own : goal.returns-clause-own

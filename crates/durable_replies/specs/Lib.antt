@@ -1,0 +1,3 @@
+pub mod Durable
+pub mod LetGo
+pub mod Told
