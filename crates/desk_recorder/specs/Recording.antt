@@ -12,6 +12,7 @@ use Rattle.recovery.specs.Histories.{ReplaysChanges}
 use Rattle.desk_journal.specs.declared.journaled_desk.OpenJob.{OpenJob}
 use Rattle.sessions.specs.JobKeys.{noted}
 use Rattle.sessions.specs.declared.job_key.KeyedJob.{KeyedJob}
+use Rattle.keyed_desk.specs.KeyedChanges.{by_key_bytes}
 use Rattle.keyed_desk.specs.KeyedSteps.{KeyedState, MakesKeyed}
 use Rattle.streams.specs.Answering.{IsOpenJob}
 use Rattle.desk_recorder.specs.declared.recorder.ChangeRecorder.{ChangeRecorder}
@@ -54,6 +55,11 @@ pub record IsChangeRecord (bytes : List ℕ) (old new : Ledger) (keyed : List Ke
 -- the bytes are the record of this payload
 abbrev pub IsRecordWith : List ℕ → List ℕ → Type 0
 IsRecordWith payload bytes = FitsRecord payload × (bytes ≡ record_of payload)
+
+-- the payload of the record of a change of a desk, by a key or without one
+abbrev pub payload_by : Option (List ℕ) → List ℕ → List ℕ
+payload_by None change = change
+payload_by (Some key) change = by_key_bytes key change
 
 -- the keyed job of a desk's last one, if it came by a key
 abbrev pub last_keyed : Option (List ℕ) → Ledger → List KeyedJob

@@ -23,4 +23,4 @@ returns-clause-kept g c = inl c.keep_within-ahead.ensures.kept
 pub returns-clause-records : goal.returns-clause-records
 returns-clause-records g c =
     c.note.ensures c.args.desk.now c.keep_within-ahead.new.self []
-    (IfOk-weaker c.forgetting_record.result _ _ (λ bytes is. is c.args.desk.now c.keep_within-ahead.new.self c.keep_within-ahead.ensures.forgets.forgets) c.forgetting_record.ensures)
+    (IfOk-weaker c.forgetting_record.result _ _ (λ bytes is. is c.args.desk.now c.keep_within-ahead.new.self c.keep_within-ahead.ensures.forgets.forgets) c.forgetting_record.ensures.record)

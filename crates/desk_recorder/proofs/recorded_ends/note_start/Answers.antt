@@ -9,7 +9,7 @@ use Rattle.desk_recorder.proofs.recorded_ends.note_start.Goals as goal
 pub returns-in-NotStarted : goal.returns-in-NotStarted
 returns-in-NotStarted g c old new number tells =
     let told = subst (λ (r : Option SubmitRefusal). TellsStart old number r new) (c.in-Some.is ∙ ap (λ (s : SubmitRefusal). Some s) c.in-NotStarted.is) tells in
-    c.note.ensures old new [] (IfOk-weaker c.failure_record.result _ _ (λ bytes are. are old new (refused_ends old new number c.in-NotStarted.job c.in-NotStarted.code told)) c.failure_record.ensures)
+    c.note.ensures old new [] (IfOk-weaker c.failure_record.result _ _ (λ bytes are. are old new (refused_ends old new number c.in-NotStarted.job c.in-NotStarted.code told)) c.failure_record.ensures.record)
 
 pub returns-in-NotTaken : goal.returns-in-NotTaken
 returns-in-NotTaken g c old new number tells =
