@@ -1,4 +1,4 @@
-"""`bpfjobs serve --journal FILE` where a request for memory is refused: what was told is there again, and nothing else was told."""
+"""`bpfjobs serve --journal FILE` where a request for memory is refused: what was told is there again."""
 
 import contextlib
 import os
@@ -13,6 +13,7 @@ from programs import IS_SLOW, PATIENCE, TOP
 from test_journal import ACCOUNT, Room, grant, submit
 
 NO_MEMORY = {"code": 99, "ok": False}
+UNKNOWN = {"code": 76, "ok": False}
 # what a job comes to that wasn't run
 NOT_STARTED = 81, 82, 99
 # by the job of `submit`
@@ -44,7 +45,7 @@ class Refused(Room):
             os.remove(self.server.journal)
         with open(self.counted, "wb") as file:
             file.write(bytes(8))
-        self.granted, self.lost, self.jobs, self.ended = 0, 0, 0, 0
+        self.granted, self.lost, self.jobs, self.ended, self.told = 0, 0, 0, 0, []
         more = {"LD_PRELOAD": self.shim, "REFUSED": str(number), "COUNTED": self.counted}
         return self.start(env={**os.environ, **more}, stderr=subprocess.PIPE)
 
@@ -73,6 +74,7 @@ class Refused(Room):
         if not told["ok"]:
             self.jobs -= 1
             return
+        self.told.append(told["job"])
         status, refused, until = {"op": "status", "job": told["job"]}, 0, time.monotonic() + PATIENCE
         while not (reply := client.ask(status)).get("complete") and refused < 2:
             self.assertIn(reply.get("code"), (None, *NOT_STARTED))
@@ -88,10 +90,13 @@ class Refused(Room):
 
     def check_again(self):
         """What was told is there. What wasn't told to its end may be."""
-        account = self.start().ask(ACCOUNT)
+        client = self.start()
+        account = client.ask(ACCOUNT)
         self.assertIn(account.get("granted", 0), (self.granted, self.granted + self.lost))
         taken = account.get("open", 0) + account.get("spent", 0)
         self.assertIn(taken, range(SPENT * self.ended, SPENT * self.jobs + 1, SPENT))
+        for job in self.told:
+            self.assertNotEqual(client.ask({"op": "status", "job": job}), UNKNOWN)
 
     def run_once(self, number):
         try:

@@ -14,7 +14,8 @@ use streams::{Noted, Sink, Source};
 
 /// Serves a connection that was opened, as `serve_opened` does, over a sink that lets replies out. All
 /// that was written, but for a beginning of the last 71, are replies of what was durable before, where
-/// the sink's journals are committed ahead of each reply.
+/// the sink's journals are committed ahead of each reply. Where they are committed at intervals, each
+/// was looked at before, and had not failed.
 pub fn serve_durably<
     'r,
     'b,

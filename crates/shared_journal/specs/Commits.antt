@@ -1,4 +1,4 @@
--- Commits of several journals, and looks at them.
+-- Commits of several journals.
 use Rattle.std.specs.Prelude.{◌⊎◌, List, [], ◌∷◌}
 
 -- all that each of these journals had taken was made durable
