@@ -158,11 +158,12 @@ class Doors(unittest.TestCase):
         self.check(MEMBER, [MEMBER, alice, bob], {**none, **both})
         self.check(STRANGER, [STRANGER], none)
         self.check(MEMBER, [alice], {**none, ("tenants", "alice"): self.IN})
-        # a server doesn't come to the other one's, and root's group to grants alone
+        # a server doesn't come to the other one's, and beside it root alone to grants, also no member of root's group
         user = TENANTS["alice"][0]
         own = {door: self.IN for door in doors if door[1] == "alice"}
         self.check(user, [user], {**none, **own, ("grants", "alice"): [74, "ok"]})
-        self.check(STRANGER, [ROOT_GROUP], {**none, ("grants", "alice"): ["ok", "ok"], ("grants", "bob"): [74, "ok"]})
+        self.check(STRANGER, [ROOT_GROUP], none)
+        self.check(0, [ROOT_GROUP], {("grants", "alice"): ["ok", "ok"], ("grants", "bob"): [74, "ok"]})
         self.check(MEMBER, [MEMBER, alice], {**none, ("tenants", "alice"): ["ok", 73]})
 
     def test_nobody_takes_a_door_s_place(self):
@@ -180,11 +181,11 @@ class Doors(unittest.TestCase):
     def test_the_modes(self):
         self.start("bob")
         user, group = TENANTS["bob"]
-        for kind, owners in (("tenants", (user, group)), ("grants", (user, ROOT_GROUP))):
+        for kind, own, owners in (("tenants", 0o770, (user, group)), ("grants", 0o600, (user, ROOT_GROUP))):
             path = self.path(kind, "bob")
             folder = os.path.dirname(path)
             above = os.path.dirname(folder)
-            for place, mode, owned in ((path, 0o770, owners), (folder, 0o2750, owners), (above, 0o755, (0, 0))):
+            for place, mode, owned in ((path, own, owners), (folder, 0o2750, owners), (above, 0o755, (0, 0))):
                 found = os.stat(place)
                 self.assertEqual((stat.S_IMODE(found.st_mode), (found.st_uid, found.st_gid)), (mode, owned), place)
 
@@ -206,7 +207,7 @@ class Doors(unittest.TestCase):
         """What was granted is there again after a stop, and after a kill."""
         granted = {("grants", "bob"): [74, "ok"]}
         self.start("bob")
-        self.check(STRANGER, [ROOT_GROUP], granted)
+        self.check(0, [ROOT_GROUP], granted)
         for end in (self.end, self.kill):
             end("bob")
             shutil.rmtree(os.path.join(self.room, "servers/bob"))

@@ -53,7 +53,9 @@ class Client:
         return json.loads(is_read(self.stream, length))
 
 
-class Local(unittest.TestCase):
+class Sockets(unittest.TestCase):
+    """A folder for a server's sockets."""
+
     def setUp(self):
         room = tempfile.TemporaryDirectory()
         self.addCleanup(room.cleanup)
@@ -73,6 +75,8 @@ class Local(unittest.TestCase):
         self.addCleanup(client.stream.close)
         return client
 
+
+class Local(Sockets):
     def test_requests_and_the_end(self):
         """Everything is answered as over a port. At the end the path is free again."""
         process = self.start("--sessions", 1, "--workers", 2)
@@ -173,10 +177,6 @@ class Local(unittest.TestCase):
                 self.assertEqual(granter.ask(ACCOUNT), told(100, 100))
                 with self.connect(first) as later:
                     self.assertEqual(later.ask(GRANT), NO_REQUEST)
-
-    def test_one_path_for_both(self):
-        self.assertEqual(self.start("--grants", self.path, "--sessions", 1).wait(PATIENCE), 3)
-        self.assertEqual(os.listdir(os.path.dirname(self.path)), [])
 
     def test_sockets_that_were_left_behind(self):
         for more in ((), ("--grants", self.grants)):

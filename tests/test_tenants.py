@@ -113,7 +113,7 @@ class Clients:
 
 
 FORM, NAME = "it wants a name and a path", "a name has 1 to 32 of a to z, 0 to 9, _ and -"
-NO_PATH, NO_TEXT = "the path is empty", "it is no UTF-8"
+NO_PATH, NO_TEXT = "a socket's path has 1 to 104 bytes, none of them 0", "it is no UTF-8"
 NO_NUMBER = "open-jobs wants a number from 0 to 1000000"
 NO_CREDIT = "credit wants a number from 1 to 2147483647"
 NAME_TWICE, PATH_TWICE, TOO_MANY = "the name is there already", "the path is there already", "256 tenants are there already"
@@ -200,7 +200,7 @@ class Lines(Room):
         self.check("a /a\nb\t/b\r\n\r\nc /b\n", 4, PATH_TWICE)
         self.check(b"a /a\nb /\xff\n", 2, NO_TEXT)
         self.check(b"\xffa /a\n", 1, NO_TEXT)
-        self.check("a /a\nb /\x00\x00\nb /b", 3, NAME_TWICE)
+        self.check("a /a\nb /\x00\x00\nb /b", 2, NO_PATH)
 
     def test_too_many(self):
         lines = [f"t{number} {self.path(str(number))}" for number in range(MOST)]
@@ -890,15 +890,15 @@ class Ends(Room):
         self.assertEqual(self.names(), ["bob"])
 
     def test_a_path_that_can_t_be_made(self):
-        for word in (f"alice={self.path('none/alice')}", f"alice={self.path('x' * 120)}"):
-            self.assertEqual(self.start("--tenant", word, *self.words("bob")).wait(PATIENCE), 3)
+        for name, status in (("none/alice", 3), ("x" * 120, 2)):
+            self.assertEqual(self.start("--tenant", f"alice={self.path(name)}", *self.words("bob")).wait(PATIENCE), status)
             self.assertEqual(self.names(), [])
 
     def test_a_path_of_the_server_s_own(self):
         """The socket for all, or for grants, is no tenant's too."""
         for name in ("all", "grants"):
             words = ("--grants", self.path("grants"), "--tenant", f"alice={self.path(name)}")
-            self.assertEqual(self.start(*words).wait(PATIENCE), 3)
+            self.assertEqual(self.start(*words).wait(PATIENCE), 2)
             self.assertEqual(self.names(), [])
 
     def test_a_live_server_s_socket_is_not_taken(self):

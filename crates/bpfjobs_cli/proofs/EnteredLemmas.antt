@@ -14,7 +14,7 @@ use Rattle.bpfjobs_cli.specs.declared.tenant_socket.TenantSocket.{TenantSocket}
 use Rattle.bpfjobs_cli.specs.declared.tenant_text.Said.{Said}
 use Rattle.bpfjobs_cli.specs.declared.tenant_text.Said.TheVariants as said
 use Rattle.bpfjobs_cli.specs.TenantLines.{SaidText, said_by, says_nothing, says_other, says_no_jobs, says_no_credit, says_tenant}
-use Rattle.bpfjobs_cli.specs.Tenants.{AreTenants, Entered, NamedTenant, entered, fault_beside, fault_said, has_name, has_path, tenant_of, tenants_in, tenants_of, unless_fault}
+use Rattle.bpfjobs_cli.specs.Tenants.{AreTenants, Entered, NamedTenant, entered, fault_beside, fault_said, has_name, has_path, is_socket_path, tenant_of, tenants_in, tenants_of, unless_fault}
 use Rattle.bpfjobs_cli.specs.Entries.{TakesSaid}
 
 -- ---- what is entered
@@ -47,7 +47,7 @@ not_false false e = absurd (true≢false e)
 -- a name and a path of one more tenant
 record Fits (ts : List NamedTenant) (name path : List ℕ) : Type 0 where
   pub name_is : is_name name ≡ true
-  pub path_is : (length path == 0) ≡ false
+  pub path_is : is_socket_path path ≡ true
   pub new_name : has_name ts name ≡ false
   pub new_path : has_path ts path ≡ false
   pub room : nat_le 256 (length ts) ≡ false
@@ -56,11 +56,11 @@ fits_beside : (ts : List NamedTenant) (name path : List ℕ) → fault_beside ts
 unfolding fault_beside
 fits_beside ts name path e =
     let first = passes (not (is_name name)) fault.Name _ e in
-    let second = passes (length path == 0) fault.NoPath _ first.1 in
+    let second = passes (not (is_socket_path path)) fault.Path _ first.1 in
     let third = passes (has_name ts name) fault.NameTwice _ second.1 in
     let fourth = passes (has_path ts path) fault.PathTwice _ third.1 in
     let last = passes (nat_le 256 (length ts)) fault.TooMany _ fourth.1 in
-    record { name_is = not_false _ first.0; path_is = second.0; new_name = third.0; new_path = fourth.0; room = last.0 }
+    record { name_is = not_false _ first.0; path_is = not_false _ second.0; new_name = third.0; new_path = fourth.0; room = last.0 }
 
 fits_tenant : (ts : List NamedTenant) (name path : List ℕ) (settings : TenantSettings) → fault_said ts (says_tenant name path settings) ≡ None → Fits ts name path
 unfolding fault_said
@@ -96,7 +96,7 @@ under n e = grind (arith, nat_tests)
 tenants_more : (ts : List NamedTenant) (name path : List ℕ) (settings : TenantSettings) → AreTenants ts → Fits ts name path → AreTenants (ts ++ (name, path, settings) ∷ [])
 tenants_more ts name path settings are fits = record {
   names = all_more (λ t. is_name t.0) ts (name, path, settings) are.names fits.name_is;
-  paths = all_more (λ t. not (length t.1 == 0)) ts (name, path, settings) are.paths (ap not fits.path_is);
+  paths = all_more (λ t. is_socket_path t.1) ts (name, path, settings) are.paths fits.path_is;
   names_apart = apart_more (λ t. t.0) name ts (name, path, settings) refl fits.new_name are.names_apart;
   paths_apart = apart_more (λ t. t.1) path ts (name, path, settings) refl fits.new_path are.paths_apart;
   count = subst (λ n. n ≤ 256) (sym (length-append ts ((name, path, settings) ∷ []))) (under (length ts) fits.room);

@@ -8,6 +8,7 @@ pub mod GivenUp
 pub mod Spelling
 pub mod Telling
 pub mod NameLemmas
+pub mod PathLemmas
 pub mod TenantLemmas
 pub mod EnteredLemmas
 pub mod TurnLemmas

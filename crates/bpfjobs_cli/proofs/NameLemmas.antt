@@ -11,7 +11,7 @@ use Rattle.clap.proofs.WalkLemmas.{list_any-map}
 use Rattle.sessions.specs.Grammar.{is_name, is_name_byte}
 use Rattle.bpfjobs_cli.specs.declared.tenant_socket.TenantFault.TheVariants as fault
 use Rattle.bpfjobs_cli.specs.declared.tenant_socket.TenantSocket.{TenantSocket}
-use Rattle.bpfjobs_cli.specs.Tenants.{fault_beside, has_name, has_path, tenant_of, tenants_in}
+use Rattle.bpfjobs_cli.specs.Tenants.{fault_beside, has_name, has_path, is_socket_path, tenant_of, tenants_in}
 
 pub name_empty : (text : List ℕ) → length text ≡ 0 → is_name text ≡ false
 unfolding is_name
@@ -67,34 +67,31 @@ module _ (ts : List TenantSocket) (name path : List ℕ) where
   paths_in : HasPath ts path ≡ has_path (tenants_in ts) path
   paths_in = list_any-map (λ t. bytes_eq t.1 path) tenant_of ts
 
-  some_path : 0 < length path → (length path == 0) ≡ false
-  some_path lt = ne_eqb _ _ (λ e. omega (arith, e))
-
   pub beside_no_name : is_name name ≡ false → Some fault.Name ≡ fault_beside (tenants_in ts) name path
   unfolding fault_beside
   beside_no_name e = rw e refl
 
-  pub beside_no_path : is_name name ≡ true → length path ≡ 0 → Some fault.NoPath ≡ fault_beside (tenants_in ts) name path
+  pub beside_no_path : is_name name ≡ true → is_socket_path path ≡ false → Some fault.Path ≡ fault_beside (tenants_in ts) name path
   unfolding fault_beside
   beside_no_path e f = rw (e, f) refl
 
-  module _ (e : is_name name ≡ true) (f : 0 < length path) where
+  module _ (e : is_name name ≡ true) (f : is_socket_path path ≡ true) where
     pub beside_name : HasName ts name ≡ true → Some fault.NameTwice ≡ fault_beside (tenants_in ts) name path
     unfolding fault_beside
-    beside_name g = rw (e, some_path f, sym names_in ∙ g) refl
+    beside_name g = rw (e, f, sym names_in ∙ g) refl
 
     pub beside_path : HasName ts name ≡ false → HasPath ts path ≡ true → Some fault.PathTwice ≡ fault_beside (tenants_in ts) name path
     unfolding fault_beside
-    beside_path g h = rw (e, some_path f, sym names_in ∙ g, sym paths_in ∙ h) refl
+    beside_path g h = rw (e, f, sym names_in ∙ g, sym paths_in ∙ h) refl
 
     pub beside_many : HasName ts name ≡ false → HasPath ts path ≡ false → 256 ≤ length ts → Some fault.TooMany ≡ fault_beside (tenants_in ts) name path
     unfolding fault_beside
     beside_many g h many =
         let full : nat_le 256 (length (tenants_in ts)) ≡ true = rw (length-map ts tenant_of) (le-leb 256 (length ts) many) in
-        rw (e, some_path f, sym names_in ∙ g, sym paths_in ∙ h, full) refl
+        rw (e, f, sym names_in ∙ g, sym paths_in ∙ h, full) refl
 
     pub beside_none : HasName ts name ≡ false → HasPath ts path ≡ false → length ts < 256 → None ≡ fault_beside (tenants_in ts) name path
     unfolding fault_beside
     beside_none g h few =
         let room : nat_le 256 (length (tenants_in ts)) ≡ false = rw (length-map ts tenant_of) (over 256 (length ts) few) in
-        rw (e, some_path f, sym names_in ∙ g, sym paths_in ∙ h, room) refl
+        rw (e, f, sym names_in ∙ g, sym paths_in ∙ h, room) refl

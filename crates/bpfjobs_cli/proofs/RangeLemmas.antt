@@ -26,7 +26,7 @@ jobs_range rows (Socket path grants) tenants are = between 1 1000000 rows (codes
 
 endpoint_range : (rows : List Row) (endpoint : Endpoint) → IsEndpointOf rows endpoint → IsEndpointInRange endpoint
 endpoint_range rows (Port port) is = (is.0.least, is.0.most)
-endpoint_range rows (Socket path grants) is = tt
+endpoint_range rows (Socket path grants) is = (is.3, is.4)
 
 said_range : (rows : List Row) (id : Text) (said : Option ℕ) (clients : ℕ) → IsMaybeNumber rows id 1 1000000 said → IfSome (sessions_said said clients) (λ n. (1 ≤ n) × (n ≤ 1000000))
 said_range rows id (Some n) clients number = (number.least, number.most)

@@ -1,5 +1,5 @@
 -- The command that a subcommand and its matches are.
-use Rattle.std.specs.Prelude.{◌≡◌, ◌==◌, ◌↔◌, ◌⊎◌, ℕ, ◌≤◌, if◌then◌else◌, IfSome, Bool, IsTrue, List, [], codes, Ok, unwrap_or, Option, Some, None, is_some, option_map, String, string_bytes, true}
+use Rattle.std.specs.Prelude.{◌≡◌, ◌==◌, ◌↔◌, ◌⊎◌, ℕ, ◌≤◌, if◌then◌else◌, IfSome, Bool, IsTrue, List, [], codes, Ok, unwrap_or, Option, Some, None, is_some, option_map, String, string_bytes, false, true}
 use Rattle.std.specs.declared.alloc.Global.{Global}
 use Rattle.std.specs.Str.Parse.{IsNumeral, digits_value, without_leading_plus}
 use Rattle.clap.specs.Faults.{fault_of}
@@ -10,7 +10,7 @@ use Rattle.bpfjobs_cli.specs.declared.commands.Command.TheVariants.{Assemble, Di
 use Rattle.bpfjobs_cli.specs.declared.commands.Endpoint.{Endpoint}
 use Rattle.bpfjobs_cli.specs.declared.commands.Endpoint.TheVariants.{Port, Socket}
 use Rattle.bpfjobs_cli.specs.declared.commands.EndpointFault.{EndpointFault}
-use Rattle.bpfjobs_cli.specs.declared.commands.EndpointFault.TheVariants.{Missing, Two, GrantsWithPort, TenantsWithPort, JobsOfNoTenant, SyncOfNoJournal, UnknownSync}
+use Rattle.bpfjobs_cli.specs.declared.commands.EndpointFault.TheVariants.{Missing, Two, GrantsWithPort, SocketPath, TenantsWithPort, JobsOfNoTenant, SyncOfNoJournal, UnknownSync}
 use Rattle.bpfjobs_cli.specs.declared.commands.Serve.{Serve as Server}
 use Rattle.bpfjobs_cli.specs.declared.commands.ServeOptions.{ServeOptions}
 use Rattle.bpfjobs_cli.specs.declared.commands.Shown.{Shown}
@@ -21,7 +21,7 @@ use Rattle.bpfjobs_cli.specs.declared.tenant_socket.TenantWords.{TenantWords}
 use Rattle.bpfjobs_cli.specs.declared.commands.Usage.TheVariants as usage
 use Rattle.bpfjobs_cli.specs.JournalSyncs.{sync_by}
 use Rattle.bpfjobs_cli.specs.Program.{bpfjobs_app}
-use Rattle.bpfjobs_cli.specs.Tenants.{AreTenants, IsWrongWord, entered, tenants_in, words_said}
+use Rattle.bpfjobs_cli.specs.Tenants.{AreTenants, IsWrongWord, entered, is_socket_path, tenants_in, words_said}
 
 -- the value of an argument, read as a number from low to high; clap reads a leading plus
 pub record IsNumberIn (rows : List Row) (id : Text) (low high number : ℕ) : Type 0 where
@@ -49,7 +49,7 @@ HasText rows id = is_some (first_of id rows) ≡ true
 abbrev pub IsPortOf : List Row → ℕ → Type 0
 IsPortOf rows port = IsNumberIn rows (codes "port") 1 65535 port
 
--- the endpoint of a server: a port alone, or a socket and no port
+-- the endpoint of a server: a port alone, or sockets at paths that can have one, and no port
 abbrev pub IsEndpointOf : List Row → Endpoint → Type 0
 IsEndpointOf rows (Port port) =
     IsPortOf rows port × (first_of (codes "socket") rows ≡ None)
@@ -58,6 +58,8 @@ IsEndpointOf rows (Socket path grants) =
     (one_of (codes "port") rows ≡ None)
     × (first_of (codes "socket") rows ≡ Some (string_bytes path))
     × (first_of (codes "grants") rows ≡ option_map string_bytes grants)
+    × (is_socket_path (string_bytes path) ≡ true)
+    × IfSome grants (λ second. is_socket_path (string_bytes second) ≡ true)
 
 -- the words of the arguments `--tenant`, in their order
 abbrev pub tenant_words : List Row → List Text
@@ -100,6 +102,11 @@ IsSyncOf rows sync =
     (sync_by (first_of (codes "journal-sync") rows) ≡ Some sync)
     × ((first_of (codes "journal-sync") rows ≡ None) ⊎ HasText rows (codes "journal"))
 
+-- an argument is a path at which no socket can be
+abbrev pub IsNoSocketPath : List Row → Text → Type 0
+IsNoSocketPath rows id =
+    (path : Text) × (first_of id rows ≡ Some path) × (is_socket_path path ≡ false)
+
 -- the words name no endpoint, or what doesn't go together
 abbrev pub IsEndpointFault : List Row → EndpointFault → Type 0
 IsEndpointFault rows Missing =
@@ -108,6 +115,9 @@ IsEndpointFault rows Two = ((port : ℕ) × IsPortOf rows port) × HasText rows 
 IsEndpointFault rows GrantsWithPort =
     ((port : ℕ) × IsPortOf rows port) × (first_of (codes "socket") rows ≡ None)
     × HasText rows (codes "grants")
+IsEndpointFault rows SocketPath =
+    (one_of (codes "port") rows ≡ None) × HasText rows (codes "socket")
+    × (IsNoSocketPath rows (codes "socket") ⊎ IsNoSocketPath rows (codes "grants"))
 IsEndpointFault rows TenantsWithPort =
     ((port : ℕ) × IsPortOf rows port) × (first_of (codes "socket") rows ≡ None)
     × (first_of (codes "grants") rows ≡ None) × NameTenants rows
@@ -195,7 +205,9 @@ pub data SaysCommand (name : Text) (rows : List Row) : Type 0 where
 -- the port is in range
 abbrev pub IsEndpointInRange : Endpoint → Type 0
 IsEndpointInRange (Port port) = (1 ≤ port) × (port ≤ 65535)
-IsEndpointInRange (Socket path grants) = Unit {0}
+IsEndpointInRange (Socket path grants) =
+    (is_socket_path (string_bytes path) ≡ true)
+    × IfSome grants (λ second. is_socket_path (string_bytes second) ≡ true)
 
 -- a server's numbers are in range
 pub record IsServeInRange (serve : Server) : Type 0 where

@@ -31,11 +31,16 @@ has_name ts name = list_any (λ t. bytes_eq t.0 name) ts
 abbrev pub has_path : List NamedTenant → List ℕ → Bool
 has_path ts path = list_any (λ t. bytes_eq t.1 path) ts
 
+-- the path of a socket: 1 to 104 bytes, none of them 0
+unfoldable pub is_socket_path : List ℕ → Bool
+is_socket_path path =
+    not (length path == 0) && nat_le (length path) 104 && not (list_any (λ byte. byte == 0) path)
+
 -- the reason why a name and a path aren't those of one more tenant
 unfoldable pub fault_beside : List NamedTenant → List ℕ → List ℕ → Option TenantFault
 fault_beside ts name path =
     if not (is_name name) then Some fault.Name
-    else if length path == 0 then Some fault.NoPath
+    else if not (is_socket_path path) then Some fault.Path
     else if has_name ts name then Some fault.NameTwice
     else if has_path ts path then Some fault.PathTwice
     else if nat_le 256 (length ts) then Some fault.TooMany else None
@@ -91,10 +96,10 @@ IsWrongLine wrong.NoMemory outcome = Unit {0}
 
 -- ---- what holds of all that are entered
 
--- each has a tenant's name and a path; no name and no path is there twice; there are 256 at most
+-- each has a tenant's name and a socket's path; no name and no path is there twice; there are 256 at most
 pub record AreTenants (ts : List NamedTenant) : Type 0 where
   pub names : list_all (λ t. is_name t.0) ts ≡ true
-  pub paths : list_all (λ t. not (length t.1 == 0)) ts ≡ true
+  pub paths : list_all (λ t. is_socket_path t.1) ts ≡ true
   pub names_apart : IsDistinct bytes_eq (map (λ t. t.0) ts)
   pub paths_apart : IsDistinct bytes_eq (map (λ t. t.1) ts)
   pub count : length ts ≤ 256

@@ -103,6 +103,8 @@ pub enum EndpointFault {
     Two,
     /// A socket for grants beside a port.
     GrantsWithPort,
+    /// A path for a socket that isn't 1 to 104 bytes, none of them 0.
+    SocketPath,
     /// A socket for a tenant beside a port.
     TenantsWithPort,
     /// A limit for each tenant, where no tenant is named.
@@ -120,6 +122,9 @@ impl EndpointFault {
             EndpointFault::Missing => "error: serve needs --port <PORT> or --socket <PATH>",
             EndpointFault::Two => "error: serve takes --port or --socket, and not both",
             EndpointFault::GrantsWithPort => "error: serve takes --grants with --socket alone",
+            EndpointFault::SocketPath => {
+                "error: serve takes 1 to 104 bytes, none of them 0, as a socket's path"
+            }
             EndpointFault::TenantsWithPort => "error: serve takes tenants with --socket alone",
             EndpointFault::JobsOfNoTenant => {
                 "error: serve takes --tenant-jobs with --tenant or --tenants alone"

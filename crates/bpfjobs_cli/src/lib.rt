@@ -9,6 +9,7 @@ mod journal_sync;
 mod process;
 mod program;
 mod reading;
+mod socket_path;
 mod tenant_number;
 mod tenant_socket;
 mod tenant_text;

@@ -1,11 +1,14 @@
 //! The command that words say.
 
-ghost use Rattle.std.specs.Prelude.{◌≡◌, [], Ok, ℕ, true, false, map, codes, IfOk, IfErr, Option, Some, option_map, string_bytes, List};
+ghost use Rattle.std.specs.Prelude.{◌≡◌, ◌⊎◌, [], Ok, ℕ, true, false, map, codes, IfOk, IfErr, IfSome, Option, Some, String, option_map, string_bytes, List};
+ghost use Rattle.std.specs.declared.alloc.Global.{Global};
 ghost use Rattle.clap.specs.Words.{Row, Text, found_of, first_of, rows_of, subcommand_of};
 ghost use Rattle.bpfjobs_cli.specs.declared.commands.ServeOptions.{ServeOptions};
 ghost use Rattle.bpfjobs_cli.specs.Program.{bpfjobs_app};
-ghost use Rattle.bpfjobs_cli.specs.declared.commands.Endpoint.TheVariants.{Port};
-ghost use Rattle.bpfjobs_cli.specs.Tenants.{entered, tenants_in, words_said};
+ghost use Rattle.bpfjobs_cli.specs.declared.commands.Endpoint.TheVariants.{Port, Socket};
+ghost use Rattle.bpfjobs_cli.specs.declared.commands.EndpointFault.TheVariants as fault;
+ghost use Rattle.bpfjobs_cli.specs.declared.commands.Usage.TheVariants as usage_of;
+ghost use Rattle.bpfjobs_cli.specs.Tenants.{entered, is_socket_path, tenants_in, words_said};
 ghost use Rattle.bpfjobs_cli.specs.Entries.{IsWordUsage};
 ghost use Rattle.bpfjobs_cli.specs.Commands.{AreJobsOf, AreOptionsOf, AreTenantsOf, HasText, IsCommandOf, IsCommandUsage, IsEndpointOf, IsEndpointUsage, IsFlagOf, IsInRange, IsJournalOf, IsMaybeNumber, IsNumberIn, IsServeOf, IsShownOf, IsSyncOf, IsUsage, NameNoTenant, NameTenants, SaysCommand, SaysServe, sessions_said, tenant_words};
 
@@ -14,6 +17,7 @@ use crate::commands::{
 };
 use crate::journal_sync::{JournalSync, sync_said};
 use crate::program::bpfjobs;
+use crate::socket_path::is_socket_path;
 use crate::tenant_socket::{TenantSocket, TenantWords};
 use crate::tenants::tenants_of_words;
 use clap::ArgMatches;
@@ -70,6 +74,38 @@ fn sessions_of(said: Option<u32>, clients: u32) -> Option<u32>
     }
 }
 
+// Whether a socket can be at a path, if there is one.
+fn may_have_socket(path: &Option<String>) -> bool
+    ensures some { result ≡ true
+        → IfSome path.now (λ path. is_socket_path (string_bytes path) ≡ true) }
+    ensures none { result ≡ false → (text : String Global) × (path.now ≡ Some text)
+        × (is_socket_path (string_bytes text) ≡ false) }
+{
+    match path {
+        Some(path) => is_socket_path(path),
+        None => true,
+    }
+}
+
+// The sockets at these paths.
+fn socket_endpoint(path: String, grants: Option<String>) -> Result<Endpoint, Usage>
+    ensures ok { IfOk result (λ endpoint. (endpoint ≡ Socket path grants)
+        × (is_socket_path (string_bytes path) ≡ true)
+        × IfSome grants (λ second. is_socket_path (string_bytes second) ≡ true)) }
+    ensures err { IfErr result (λ usage. (usage ≡ usage_of.Endpoint fault.SocketPath)
+        × ((is_socket_path (string_bytes path) ≡ false)
+        ⊎ ((text : String Global) × (grants ≡ Some text)
+        × (is_socket_path (string_bytes text) ≡ false)))) }
+{
+    if !is_socket_path(&path) {
+        return Err(Usage::Endpoint(EndpointFault::SocketPath));
+    }
+    if !may_have_socket(&grants) {
+        return Err(Usage::Endpoint(EndpointFault::SocketPath));
+    }
+    Ok(Endpoint::Socket { path, grants })
+}
+
 // The place where a server listens: a port, or a socket.
 fn endpoint(alloc: Global, matches: &ArgMatches<'_>) -> Result<Endpoint, Usage>
     requires { (n : Option ℕ)
@@ -89,7 +125,7 @@ fn endpoint(alloc: Global, matches: &ArgMatches<'_>) -> Result<Endpoint, Usage>
             },
         },
         None => match path {
-            Some(path) => Ok(Endpoint::Socket { path, grants }),
+            Some(path) => socket_endpoint(path, grants),
             None => Err(Usage::Endpoint(EndpointFault::Missing)),
         },
     }

@@ -40,8 +40,8 @@ pub enum TenantFault {
     NotText,
     /// The name isn't 1 to 32 of `a` to `z`, `0` to `9`, `_` and `-`.
     Name,
-    /// The path is empty.
-    NoPath,
+    /// The path isn't 1 to 104 bytes, none of them 0.
+    Path,
     /// A tenant before it has this name.
     NameTwice,
     /// A tenant before it has this path.
@@ -61,7 +61,7 @@ impl TenantFault {
             TenantFault::Form => "it wants a name and a path",
             TenantFault::NotText => "it is no UTF-8",
             TenantFault::Name => "a name has 1 to 32 of a to z, 0 to 9, _ and -",
-            TenantFault::NoPath => "the path is empty",
+            TenantFault::Path => "a socket's path has 1 to 104 bytes, none of them 0",
             TenantFault::NameTwice => "the name is there already",
             TenantFault::PathTwice => "the path is there already",
             TenantFault::TooMany => "256 tenants are there already",

@@ -9,6 +9,7 @@ ghost use Rattle.bpfjobs_cli.specs.TenantLines.{said_by, says_tenant};
 ghost use Rattle.bpfjobs_cli.specs.Entries.{IsWordUsage, RefusesSaid, TakesSaid, TellsWord, wrong_at};
 
 use crate::commands::Usage;
+use crate::socket_path::is_socket_path;
 use crate::tenant_socket::{TenantFault, TenantSettings, TenantSocket, WrongTenant};
 use crate::tenant_text::{Delimiter, Said, cut_at, said_by_line, said_by_word};
 use std::alloc::{AllocError, Global};
@@ -83,8 +84,8 @@ fn fault_beside(tenants: &[TenantSocket], name: &str, path: &str) -> Option<Tena
     if !is_name(name.as_bytes()) {
         return Some(TenantFault::Name);
     }
-    if path.is_empty() {
-        return Some(TenantFault::NoPath);
+    if !is_socket_path(path) {
+        return Some(TenantFault::Path);
     }
     if has_name(tenants, name) {
         return Some(TenantFault::NameTwice);

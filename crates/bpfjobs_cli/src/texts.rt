@@ -88,7 +88,8 @@ Writes no output: clients send requests and get replies as frames.
 With --socket PATH it listens on a Unix socket at PATH, in place of a port. Those who may write to
 PATH may connect: the umask says who they are. A socket at PATH on which nobody listens is removed
 first, and PATH is removed at the end. With --grants a grant of any other connection is answered
-by 73, and changes nothing.
+by 73, and changes nothing; the server's own user and root alone may connect there. A path has 1 to
+104 bytes, and no two sockets have one path.
 
 With --tenant NAME=PATH a tenant has a socket of its own at PATH, and a desk of its own: jobs that
 are submitted there count from 1, and no other socket submits in the tenant's name. A connection
@@ -101,8 +102,8 @@ the tenant is granted so much at first.
 With --journal FILE each change of the desk is a record of FILE, which is made where there is none. A
 reply is sent once the records of what it tells are on the disk. A server that starts with FILE goes
 on from its records: with their accounts, reports and numbers, and the jobs that were open begin
-anew. A torn record at the end is cut off; FILE is not used where it is damaged, or another server
-has it (3). At a start a snapshot takes FILE's place where it is at most half as long. With tenants
+anew. A torn record at the end is kept in FILE.torn and cut off; FILE is not used, and stays as it
+is, where it is no journal or damaged, or another server has it (3). At a start a snapshot takes FILE's place where it is at most half as long. With tenants
 FILE is that of everybody else, and FILE.NAME that of the tenant NAME. With --journal-sync interval
 no reply waits for the disk: what was told in about the last second may be gone after a kill or a
 crash, and a later server goes on from what came before it.

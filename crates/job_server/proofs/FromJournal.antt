@@ -1,9 +1,7 @@
 -- A result comes from the journal, or from a submit, at a server that goes on from a recovered desk.
-use Rattle.std.proofs.Common.{◌≡◌, ◌+◌, ◌-◌, ◌<◌, ◌≤◌, ℕ, Bool, List, [], ◌∷◌, ◌++◌, length, slice_get, Option, Some, None, Result, Ok, Err, refl, sym, ap, subst, ◌∙◌, inl, inr, arith}
+use Rattle.std.proofs.Common.{◌≡◌, ◌+◌, ◌-◌, ◌≤◌, ℕ, Bool, List, [], ◌∷◌, ◌++◌, slice_get, Option, Some, Result, Ok, refl, sym, ap, subst, ◌∙◌, arith}
 use Rattle.std.proofs.lemmas.Option.{slice_get_within}
 use Rattle.serde_json.specs.Data.{Data}
-use Rattle.credit_book.specs.declared.book.Report.{Report}
-use Rattle.credit_book.specs.declared.board.Progress.{Progress}
 use Rattle.job_core.specs.Admitted.{AdmittedJob}
 use Rattle.accounts.specs.declared.jobs.JobEntry.{JobEntry}
 use Rattle.accounts.specs.declared.jobs.JobStanding.TheVariants.{Open}
@@ -19,7 +17,7 @@ use Rattle.shared_desk.specs.ServerAsked.{AreAskedOfDesks}
 use Rattle.shared_desk.proofs.AskedOfDesks.{asked_of_desks}
 use Rattle.job_pools.specs.Endings.{IsRun}
 use Rattle.job_pools.specs.Started.{pooled_at, pooled_count}
-use Rattle.job_server.specs.AfterRestart.{AreKnown, AreRecovered, ComesFromJournal, IsRecoveredAs, IsRecoveredHistory, IsResultKnown, IsToldKnown, Itself, KnownJob, Over, forgotten, known_at, no_more, none_yet, not_over, failed, one_more, reported, over_standing, unknown, was_over}
+use Rattle.job_server.specs.AfterRestart.{AreKnown, AreRecovered, ComesFromJournal, IsRecoveredAs, IsRecoveredHistory, IsResultKnown, IsToldKnown, Itself, KnownJob, Over, forgotten, known_at, no_more, none_yet, not_over, failed, one_more, reported, unknown, was_over}
 use Rattle.job_server.specs.EndToEnd.{HasReply, IsResultFrame, StaysTold}
 use Rattle.job_server.specs.Recorded.{IsServingRecorded, RecordedHosted, recorded_answers}
 use Rattle.job_server.specs.declared.bounds.Bounds.{Bounds}

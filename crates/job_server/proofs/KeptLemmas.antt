@@ -1,8 +1,7 @@
 -- The last job of a desk that forgets.
-use Rattle.std.proofs.Common.{◌≡◌, ◌≤◌, ℕ, zero, suc, List, [], ◌∷◌, ◌++◌, append_assoc, length, length-append, replicate, refl, sym, ◌∙◌, ap, arith, inl, inr, Option, Some, None, Result, Ok, Err}
+use Rattle.std.proofs.Common.{◌≡◌, ℕ, List, length, refl, sym, ◌∙◌, ap, Option, Some, None, Result, Ok, Err}
 use Rattle.refusal.specs.declared.NoMemory.{NoMemory}
 use Rattle.accounts.specs.declared.keep_limits.KeepLimits.{KeepLimits}
-use Rattle.accounts.specs.declared.jobs.JobEntry.{JobEntry}
 use Rattle.accounts.specs.declared.jobs.JobStanding.{JobStanding}
 use Rattle.accounts.specs.Limits.{bytes_in}
 use Rattle.accounts.proofs.LastJob.{last_left}

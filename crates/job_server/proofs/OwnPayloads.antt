@@ -18,7 +18,7 @@ use Rattle.tenant_desks.proofs.DoorLemmas.{asked_plainly}
 use Rattle.tenant_desks.proofs.NamedHistories.{own_names}
 use Rattle.accounts.specs.Ledgers.{Ledger}
 use Rattle.tenant_desks.specs.Answering.{KeptRunner}
-use Rattle.tenant_desks.specs.Tenancies.{AreFirstDesks, IsFirstDesk, Tenancy, fresh_desk}
+use Rattle.tenant_desks.specs.Tenancies.{AreFirstDesks, IsFirstDesk, fresh_desk}
 use Rattle.job_pools.specs.declared.limited_runner.LimitedRunner.{LimitedRunner}
 use Rattle.job_pools.specs.declared.line_limited_runner.LineLimitedRunner.{LineLimitedRunner}
 use Rattle.credit_book.specs.declared.book.Report.{Report}

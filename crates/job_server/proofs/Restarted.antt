@@ -16,10 +16,10 @@ use Rattle.desk_journal.specs.OpenJobs.{open_job_at}
 use Rattle.desk_journal.specs.declared.journaled_desk.OpenJob.{OpenJob}
 use Rattle.desk_journal.proofs.OpenLemmas.{AreApart, AreHeldOpen, at_middle, none_ahead, pushed_at}
 use Rattle.desk_recorder.specs.Restarts.{NotesStart, StartsEach, none_yet, one_more}
-use Rattle.job_server.specs.AfterRestart.{AreRecovered, IsRecoveredAs, Itself, KnownJob, Over, over_standing}
+use Rattle.job_server.specs.AfterRestart.{AreRecovered, IsRecoveredAs, Itself, KnownJob, Over}
 use Rattle.job_server.specs.EndToEnd.{FailsBy}
 use Rattle.job_server.proofs.HistoryStands.{HoldsJobs}
-use Rattle.job_server.proofs.StandsFor.{AllStand, Ended, StandsFor, all_stand, stand_noted, stands_more}
+use Rattle.job_server.proofs.StandsFor.{AllStand, StandsFor, all_stand, stand_noted}
 
 -- ---- what is known of the desk's jobs
 

@@ -1,9 +1,8 @@
 -- A tenant's result comes from its journal, or from a submit of its own, at a server that goes on from recovered desks.
-use Rattle.std.proofs.Common.{◌≡◌, ◌≢◌, ◌≤◌, ◌<◌, ◌+◌, ◌-◌, ℕ, zero, suc, Bool, List, [], ◌∷◌, ◌++◌, length, map, slice_get, slice_set, Option, Some, None, Result, Ok, refl, sym, ap, subst, ◌∙◌, arith}
+use Rattle.std.proofs.Common.{◌≡◌, ◌≤◌, ◌<◌, ◌-◌, ℕ, zero, suc, Bool, List, [], ◌∷◌, ◌++◌, length, map, slice_get, Option, Some, None, Result, Ok, refl, sym, ap, subst, ◌∙◌, arith}
 use Rattle.std.proofs.lemmas.List.{length-map}
 use Rattle.std.proofs.lemmas.Option.{slice_get_within}
 use Rattle.job_core.specs.Admitted.{AdmittedJob}
-use Rattle.accounts.specs.declared.jobs.JobEntry.{JobEntry}
 use Rattle.accounts.specs.Ledgers.{Ledger, granted_to}
 use Rattle.accounts.proofs.Listed.{get_within}
 use Rattle.recovery.specs.Histories.{IsAfter}
@@ -26,7 +25,7 @@ use Rattle.tenant_desks.specs.Seen.{answers_seen, looks_seen, starts_seen, takes
 use Rattle.tenant_desks.specs.Tenancies.{Tenancy}
 use Rattle.tenant_desks.proofs.DoorLemmas.{asked_plainly}
 use Rattle.tenant_desks.proofs.SeenLemmas.{begins_more, plain_part_from}
-use Rattle.tenant_recorder.specs.TenantCredits.{AreCredited, IsCredited, IsCreditedAt, IsFirstGrant}
+use Rattle.tenant_recorder.specs.TenantCredits.{IsCredited, IsCreditedAt, IsFirstGrant}
 use Rattle.tenant_recorder.specs.TenantsRecorded.{keeps_recorded_key, named_answers_recorded, unrecorded}
 use Rattle.tenant_recorder.proofs.Recovered.{same_answers}
 use Rattle.tenant_recorder.proofs.RecordedNames.{own_names_recorded}

@@ -1,6 +1,5 @@
 -- The desks of tenants whose open jobs were started again: each one's jobs stand for those that are known.
-use Rattle.std.proofs.Common.{◌≡◌, ◌≢◌, ◌⊎◌, ◌+◌, ◌*◌, ◌<◌, ◌≤◌, ℕ, List, [], ◌∷◌, ◌++◌, length, slice_get, Option, Some, None, Result, Ok, Err, refl, sym, ap, subst, ◌∙◌, inl, inr, arith}
-use Rattle.std.proofs.lemmas.Bool.{cases_lt}
+use Rattle.std.proofs.Common.{◌≡◌, ◌≢◌, ◌⊎◌, ◌+◌, ◌<◌, ◌≤◌, ℕ, List, [], ◌∷◌, ◌++◌, length, slice_get, Option, Some, None, Result, Ok, Err, refl, sym, ap, subst, ◌∙◌, inl, inr, arith}
 use Rattle.std.proofs.lemmas.List.{length-append}
 use Rattle.std.proofs.lemmas.Option.{slice_get_within}
 use Rattle.credit_book.specs.declared.book.Report.{Report}
@@ -11,7 +10,7 @@ use Rattle.accounts.specs.Ledgers.{Ledger}
 use Rattle.desk_journal.specs.DeskSteps.{DeskState}
 use Rattle.desk_journal.specs.declared.journaled_desk.OpenJob.{OpenJob}
 use Rattle.desk_journal.proofs.OpenLemmas.{AreHeldOpen, get_pushed}
-use Rattle.desk_recorder.specs.Restarts.{NotesStart, StartsEach, none_yet, one_more}
+use Rattle.desk_recorder.specs.Restarts.{StartsEach, none_yet, one_more}
 use Rattle.tenant_desks.specs.declared.placed_runner.PlacedRunner.{PlacedRunner}
 use Rattle.tenant_desks.specs.Answering.{for_place}
 use Rattle.tenant_desks.specs.PlacedRunners.{looks_placed, starts_placed, takes_placed}

@@ -1,5 +1,5 @@
 -- Histories of a server whose tenants have doors of their own, and which goes on from their journals.
-use Rattle.std.specs.Prelude.{◌≡◌, ℕ, List, map}
+use Rattle.std.specs.Prelude.{◌≡◌, List, map}
 use Rattle.accounts.specs.Ledgers.{Ledger}
 use Rattle.desk_journal.specs.DeskSteps.{DeskState}
 use Rattle.shared_desk.specs.Histories.{HistoryEntry, Replays}

@@ -65,10 +65,12 @@ pub use tenant_laws::{
 
 // the same by sockets in the file system
 mod local_listener;
+mod owner_socket;
 mod serving_doors;
 mod serving_sockets;
 mod tenants_listener;
 
 pub use local_listener::{GrantsListener, LocalListener, listen_at};
+pub use owner_socket::listen_for_owner;
 pub use serving_sockets::serve_sockets;
 pub use tenants_listener::{AskedSocket, TenantsListener};

@@ -24,8 +24,8 @@ fn as_tcp(stream: UnixStream) -> TcpStream {
     TcpStream::from(OwnedFd::from(stream))
 }
 
-// Removes a socket on which nobody listens. Anything else at the path is left, and refused.
-fn make_room<R: Files + Net>(rt: &R, path: &str) -> io::Result<()> {
+/// Removes a socket on which nobody listens. Anything else at the path is left, and refused.
+pub(crate) fn make_room<R: Files + Net>(rt: &R, path: &str) -> io::Result<()> {
     let Ok(found) = fs::symlink_metadata(rt, path) else {
         return Ok(());
     };
@@ -39,7 +39,7 @@ fn make_room<R: Files + Net>(rt: &R, path: &str) -> io::Result<()> {
     }
 }
 
-/// Listens at this path. A socket that is there and on which nobody listens is removed first.
+/// Listens at this path, to which those may connect whom the umask lets write there. A socket that is there and on which nobody listens is removed first.
 /// Anything else there is an error, and stays.
 pub fn listen_at<R: Files + Net>(rt: &R, path: &str) -> io::Result<UnixListener> {
     make_room(rt, path)?;

@@ -7,6 +7,7 @@ ghost use Rattle.streams.specs.declared.fault.StreamFault.TheVariants as stream;
 
 use crate::fault::ServeFault;
 use crate::local_listener::listen_at;
+use crate::owner_socket::listen_for_owner;
 use crate::plan::Plan;
 use crate::serving::serve_listener;
 use crate::tenant_door::TenantDoor;
@@ -108,7 +109,7 @@ fn serve_beside<R: Net + Files + Threads + Wait + Clock + Sync>(
     let Some(path) = grants else {
         return serve_tenants(rt, alloc, all, None, plan, states);
     };
-    let Ok(granting) = listen_at(rt, path) else {
+    let Ok(granting) = listen_for_owner(rt, alloc, path) else {
         return Err(ServeFault::Socket);
     };
     let served = serve_tenants(rt, alloc, all, Some(granting), plan, states);

@@ -7,6 +7,7 @@ ghost use Rattle.streams.specs.declared.fault.StreamFault.TheVariants as stream;
 
 use crate::fault::ServeFault;
 use crate::local_listener::{GrantsListener, LocalListener, listen_at};
+use crate::owner_socket::listen_for_owner;
 use crate::plan::Plan;
 use crate::serving::serve_listener;
 use crate::serving_doors::serve_doors;
@@ -67,7 +68,7 @@ fn serve_two<R: Net + Files + Threads + Wait + Clock + Sync>(
     let Ok(all) = listen_at(rt, socket) else {
         return Err(ServeFault::Socket);
     };
-    let Ok(granting) = listen_at(rt, grants) else {
+    let Ok(granting) = listen_for_owner(rt, alloc, grants) else {
         let _ = fs::remove_file(rt, socket);
         return Err(ServeFault::Socket);
     };

@@ -6,8 +6,8 @@ use Rattle.job_server.proofs.serving_sockets.serve_two.Goals as goal
 pub returns-in_default : goal.returns-in_default
 returns-in_default g c = inr (inr refl)
 
-pub returns-in_default-listen_at : goal.returns-in_default-listen_at
-returns-in_default-listen_at g c = inr (inr refl)
+pub returns-in_default-listen_for_owner : goal.returns-in_default-listen_for_owner
+returns-in_default-listen_for_owner g c = inr (inr refl)
 
 pub returns : goal.returns
 returns g c =

@@ -1,4 +1,4 @@
-use Rattle.std.proofs.Common.{◌≡◌, ℕ, List, inl, ap, length, map, sym, string_bytes, ◌∙◌, Option, String, Vec, Global, arith}
+use Rattle.std.proofs.Common.{ℕ, List, inl, ap, length, map, sym, string_bytes, ◌∙◌, Option, String, Vec, Global, arith}
 use Rattle.std.proofs.lemmas.List.{length-map}
 use Rattle.desk_journal.specs.declared.journaled_desk.OpenJob.{OpenJob}
 use Rattle.job_pools.specs.LineBounded.{new_by_line, starts_by_line}
