@@ -263,11 +263,14 @@ def _bytes(value, name):
     return value if type(value) is bytes else _view(value, name).tobytes()
 
 
-def _items(value, name):
+def _items(value, name, most=_MOST_ITEMS):
     """A copy of a sequence, which may have another length at the next look, or no end."""
-    items = list(itertools.islice(value, _MOST_ITEMS + 1))
-    if len(items) > _MOST_ITEMS:
-        raise ValueError(f"{name}: over {_MOST_ITEMS} items")
+    try:
+        items = list(itertools.islice(value, most + 1))
+    except (TypeError, NotImplementedError, SystemError) as error:  # the latter two of memoryviews
+        raise TypeError(f"{name}: {error}") from None
+    if len(items) > most:
+        raise ValueError(f"{name}: over {most} items")
     return items
 
 
@@ -282,10 +285,9 @@ def _lent(memory):
         raise TypeError("the memory has gaps")
     if view.format.lstrip("@=<>!") not in _NUMBERS:
         raise TypeError(f"the memory holds no plain numbers, but {view.format!r}")
-    size = view.nbytes
-    if size == 0:
+    if view.nbytes == 0:
         return ctypes.create_string_buffer(1), 0
-    return (ctypes.c_char * size).from_buffer(view), size
+    return (ctypes.c_char * view.nbytes).from_buffer(view), view.nbytes
 
 
 def _roomy(size, export, *given):
@@ -477,7 +479,8 @@ class Program(_Held):
         For each run there is an Executed, or the Error that it was refused by."""
         credit, pieces = self._credit(credit), _items(pieces, "pieces")
         runs = (_Run * max(len(pieces), 1))()
-        for run, (start, length, argument) in zip(runs, pieces):
+        for run, piece in zip(runs, pieces):
+            start, length, argument = _items(piece, "a piece", 3)
             run.start = _number(start, 2**64, "start")
             run.length = _number(length, 2**64, "length")
             run.argument = _number(argument, 2**64, "argument")
@@ -504,8 +507,7 @@ class HostedTask(_Held):
 
     def __init__(self, program, length, argument=0, credit=None):
         credit = _of(Program, program, "program")._credit(credit)
-        argument = _number(argument, 2**64, "argument")
-        length = _number(length, 2**64, "length")
+        argument, length = _number(argument, 2**64, "argument"), _number(length, 2**64, "length")
         with program._lock, self._lock:
             _passed(_start(program._handle, credit, argument, length, self._handle))
 
@@ -514,8 +516,7 @@ class HostedTask(_Held):
         the limit says, until one ends the task or asks. Answers an Executed, an Asked, or None at
         the limit."""
         event = _Event()
-        answer = _number(answer, 2**64, "answer")
-        limit = _number(limit, _WORD, "limit")
+        answer, limit = _number(answer, 2**64, "answer"), _number(limit, _WORD, "limit")
         room, size = _lent(memory)
         with self._lock:
             _passed(_go(self._handle, answer, room, size, limit, event))
@@ -549,7 +550,8 @@ class Job:
     _programs = (b"", 0, (_Piece * 1)(), 0)
 
     def __init__(self, *programs):
-        programs = [(_number(need, _WORD, "need"), _bytes(code, "code")) for need, code in programs]
+        pairs = (_items(program, "a program", 2) for program in programs)
+        programs = [(_number(need, _WORD, "need"), _bytes(code, "code")) for need, code in pairs]
         pieces, start = (_Piece * max(len(programs), 1))(), 0
         for piece, (need, code) in zip(pieces, programs):
             piece.start, piece.length, piece.need = start, len(code), need
@@ -619,10 +621,10 @@ class World(_Held):
 
     def run(self, number, limit=1):
         """Runs a task on: so many instructions at most, or until it ends."""
+        number, limit = _number(number, _WORD, "number"), _number(limit, _WORD, "limit")
         step = _Step()
-        given = (_number(number, _WORD, "number"), _number(limit, _WORD, "limit"))
         with self._lock:
-            _passed(_world_run(self._handle, *given, step))
+            _passed(_world_run(self._handle, number, limit, step))
         r0 = step.r0 if step.came_to == 2 else None
         told = (step.tasks, step.held, step.returned, step.spent, step.used)
         return Stepped(step.count, r0, step.came_to != 0, *told, bool(step.is_complete))
