@@ -147,10 +147,12 @@ PLAIN = [
     bytearray, lambda: bytearray(1), lambda: bytearray(65536), lambda: bytearray(65537),
     lambda: memoryview(bytearray(64))[::2], lambda: memoryview(b"1234"), released,
     lambda: memoryview(bytearray(64))[8:16], lambda: memoryview(bytearray(64)).cast("B", (8, 8)),
-    lambda: array.array("d", [1.0] * 4), lambda: array.array("u", "text"), lambda: mmap.mmap(-1, 64),
+    lambda: array.array("d", [1.0] * 4), lambda: array.array("u", "text"),
+    lambda: mmap.mmap(-1, 64),
     lambda: array.array("I"), lambda: (ctypes.c_void_p * 4)(), lambda: (ctypes.py_object * 2)(),
     lambda: ctypes.create_string_buffer(16), lambda: (ctypes.c_uint32 * 4)(), ctypes.c_uint64,
-    lambda: io.BytesIO(bytes(16)).getbuffer(), lambda: io.BytesIO(b"x"), lambda: ctypes.c_char_p(b"x"),
+    lambda: io.BytesIO(bytes(16)).getbuffer(), lambda: io.BytesIO(b"x"),
+    lambda: ctypes.c_char_p(b"x"),
     list, tuple, dict, set, lambda: [0] * 200, lambda: range(9), lambda: range(2**62),
     lambda: itertools.repeat(0), lambda: iter([0, 0, 1]), lambda: (n for n in (0, 1)),
     lambda: [(0, 1)], lambda: [(0, 1, 2, 3)], lambda: [(0, 2**63, 0), (2**64 - 1, 1, 0)],
@@ -167,23 +169,24 @@ class Objects:
 
     def __init__(self, seed):
         self.random = random.Random(seed)
+        self.add, self.ask = assemble(ADD), assemble(ASK)
+        self.root, self.child = assemble(ROOT), assemble(CHILD)
+        self.spelled = '{"need":2,"code":"%s"}' % self.child.hex()
         self.renew()
 
     def renew(self):
         """New objects, none of which is closed."""
-        self.memory = bytearray(range(8))
-        self.program = Program(1, assemble(ADD))
-        self.asking = Program(0, assemble(ASK), ARITIES)
-        self.task = HostedTask(self.asking, 8)
-        self.job = Job((0, assemble(ROOT)), (2, assemble(CHILD)))
-        self.world = World(self.job, bytes(8), 40)
-        self.desk, self.number = Desk(), 1
-        self.client = self.desk.connect()
-        code = assemble(CHILD).hex()
-        self.text = '{"programs":[{"need":2,"code":"%s"}],"credit":9,"buffer":"0000"}' % code
+        program, asking = Program(1, self.add), Program(0, self.ask, ARITIES)
+        task, job, desk = HostedTask(asking, 8), Job((0, self.root), (2, self.child)), Desk()
+        self.text = '{"programs":[%s],"credit":9,"buffer":"0000"}' % self.spelled
         asked = ['{"op":"grant","tenant":"t","amount":500}']
         asked += ['{"op":"submit","tenant":"t",' + self.text[1:]] * 3
-        self.desk.feed(self.client, b"".join(framed(it.encode()) for it in asked))
+        client = desk.connect()
+        desk.feed(client, b"".join(framed(it.encode()) for it in asked))
+        # none is there for others until all are made
+        self.memory, self.world = bytearray(range(8)), World(job, bytes(8), 40)
+        self.program, self.asking, self.task, self.job = program, asking, task, job
+        self.desk, self.client, self.number = desk, client, 1
 
     def held(self):
         return [self.program, self.asking, self.task, self.world, self.desk]
@@ -232,10 +235,25 @@ class Objects:
             lambda: (lambda kind: kind.__new__(kind))(type(self.random.choice(self.held()))),
         ][made]()
 
+    def near(self, value):
+        """A value of the same sort as one that a call expects, where there is such a sort."""
+        if isinstance(value, int):
+            number = self.random.choice(NUMBERS)
+            return self.random.choice([number, Lying(number), Index(number, self.hook())])
+        if isinstance(value, (bytes, bytearray)):
+            size = self.random.choice([0, 1, 7, 8, 9, 64, 65536, 65537])
+            return type(value)(bytes(self.random.choices([0, 5, 0x95], k=9)) * size)[:size]
+        if isinstance(value, (list, tuple)):
+            items = [it if self.random.random() < 0.5 else self.near(it) for it in value]
+            return self.random.choice([Changing(items), items[1:], items * 3, tuple(items)])
+        if isinstance(value, dict):
+            return {self.random.choice([*value, *NUMBERS]): self.near(it) for it in value.values()}
+        return self.odd()
+
     def calls(self):
         """Each call by its name, with arguments that it expects."""
-        add, ask, shown = assemble(ADD), assemble(ASK), Report(3, 6, 1, [Task(0, 0, 0, 9, 3, 6, 7)])
-        root, child = (0, assemble(ROOT)), (2, assemble(CHILD))
+        add, ask, shown = self.add, self.ask, Report(3, 6, 1, [Task(0, 0, 0, 9, 3, 6, 7)])
+        root, child = (0, self.root), (2, self.child)
         frame, memory = framed(b'{"op":"account","tenant":"t"}'), self.memory
         again = {
             "Program.__init__": (self.program.__init__, 1, add),
@@ -293,11 +311,12 @@ class Objects:
     def next_call(self):
         """A call's name, its callable and its arguments, of which some are odd."""
         name, (call, *given) = self.random.choice([*self.calls().items()])
-        share = self.random.choice([0, 0.1, 0.4, 0.4, 1])
-        given = [self.odd() if self.random.random() < share else it for it in given]
-        if given and 0 < share < 1:
-            given[self.random.randrange(len(given))] = self.odd()
-        return name, call, given
+        share = self.random.choice([0, 0.2, 0.2])
+        other = self.random.choice([self.near, lambda _: self.odd()])
+        if given and share:
+            place = self.random.randrange(len(given))
+            given[place] = other(given[place])
+        return name, call, [other(it) if self.random.random() < share else it for it in given]
 
 
 def spelled(value):
