@@ -73,7 +73,7 @@ class Changing(list):
         self.looks = itertools.count(1)
 
     def __len__(self):
-        return (next(self.looks) * 7919) % 97
+        return 50 if next(self.looks) < 3 else 1 << 26
 
     def __iter__(self):
         return iter([*super().__iter__()] * ((next(self.looks) * 31) % 40))
