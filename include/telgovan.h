@@ -8,9 +8,10 @@
  * memory and handles of its own.
  *
  * Each pointer must lead to as many elements as the length behind it says, also where that is 0,
- * and must not be NULL. What is read may be lent twice. What is written (memory, room, runs, tasks,
- * handles and what is told) must not overlap anything else that the same call is lent. No call is
- * made from a signal handler, or in the forked child of a process with threads. */
+ * and must not be NULL. No call finds out that a length is too large. What is read may be lent
+ * twice. What is written (memory, room, runs, tasks, handles and what is told) must not overlap
+ * anything else that the same call is lent. No call is made from a signal handler, or in the forked
+ * child of a process with threads. */
 #ifndef TELGOVAN_H
 #define TELGOVAN_H
 

@@ -13,10 +13,13 @@ Executed(r0=40, used=5)
 """
 
 import ctypes
+import itertools
 import json
+import operator
 import os
 import threading
 from collections import namedtuple
+from collections.abc import Mapping
 
 __all__ = [
     "Asked",
@@ -101,12 +104,14 @@ class _Run(ctypes.Structure):
     _fields_ = [*_fields(u64="start length argument"), ("outcome", _Outcome)]
 
 
-class _Program(ctypes.Structure):
-    _fields_ = [("held", ctypes.c_void_p), ("loaded", _BOOL)]
+def _handle(flag):
+    """A kind of handle. Its fields are the library's."""
+    fields = [("held", ctypes.c_void_p), (flag, _BOOL)]
+    return type("_Handle", (ctypes.Structure,), {"_fields_": fields})
 
 
-class _TaskHandle(ctypes.Structure):
-    _fields_ = [("held", ctypes.c_void_p), ("started", _BOOL)]
+_Program, _TaskHandle = _handle("loaded"), _handle("started")
+_World, _Desk = _handle("opened"), _handle("made")
 
 
 class _Event(ctypes.Structure):
@@ -129,10 +134,6 @@ class _Report(ctypes.Structure):
     _fields_ = _fields(
         u64="tasks", u32="status spent returned program slot", flags="has_program has_slot"
     )
-
-
-class _World(ctypes.Structure):
-    _fields_ = [("held", ctypes.c_void_p), ("opened", _BOOL)]
 
 
 class _Step(ctypes.Structure):
@@ -215,24 +216,78 @@ class Error(Exception):
         self.number, self.place, self.program = number, place, program
 
 
+# ---- arguments: each is looked at once, and the library is given what was found
+
+_MOST_ITEMS, _MANY = 2**22, 2**16
+_NUMBERS = frozenset("cbB?hHiIlLqQnNefd")
+
+
+def _whole(value, name):
+    """The number that a whole number is, also where it is of a class of the caller's."""
+    try:
+        return int.__index__(operator.index(value))
+    except TypeError as error:
+        raise TypeError(f"{name}: {error}") from None
+
+
 def _number(value, limit, name):
-    """ctypes would cut a number that is too large."""
-    if not 0 <= value < limit:
+    """ctypes would cut a number that is too large or negative."""
+    number = _whole(value, name)
+    if not 0 <= number < limit:
         raise ValueError(f"{name} is out of range")
+    return number
+
+
+def _of(kind, value, name):
+    """The value, which has to be of this kind."""
+    if not isinstance(value, kind):
+        raise TypeError(f"{name}: a {kind.__name__} is required, not {type(value).__name__!r}")
     return value
+
+
+def _text(value, name):
+    """The bytes of a text."""
+    return str.encode(_of(str, value, name))
+
+
+def _view(value, name):
+    """The bytes that an object has, where they are. A number or a list has none."""
+    try:
+        return memoryview(value)
+    except TypeError as error:
+        raise TypeError(f"{name}: {error}") from None
+
+
+def _bytes(value, name):
+    """A copy of bytes that are read: their owner may change them during the call."""
+    return value if type(value) is bytes else _view(value, name).tobytes()
+
+
+def _items(value, name, most=_MOST_ITEMS):
+    """A copy of a sequence, which may have another length at the next look, or no end."""
+    try:
+        items = list(itertools.islice(value, most + 1))
+    except (TypeError, NotImplementedError, SystemError) as error:  # the latter two of memoryviews
+        raise TypeError(f"{name}: {error}") from None
+    if len(items) > most:
+        raise ValueError(f"{name}: over {most} items")
+    return items
 
 
 def _lent(memory):
     """The address of the bytes of a bytearray, a memoryview or the like, which are lent and not
     copied, and their number. What has them can't be resized as long as the first is held. Bytes
-    that can't be written are refused by TypeError."""
-    view = memoryview(memory)
+    that can't be written, that have gaps or that are pointers are refused by TypeError."""
+    view = _view(memory, "memory")
     if view.readonly:
         raise TypeError("the memory is written, so it can't be read-only")
-    size = view.nbytes
-    if size == 0:
+    if not view.c_contiguous:
+        raise TypeError("the memory has gaps")
+    if view.format.lstrip("@=<>!") not in _NUMBERS:
+        raise TypeError(f"the memory holds no plain numbers, but {view.format!r}")
+    if view.nbytes == 0:
         return ctypes.create_string_buffer(1), 0
-    return (ctypes.c_char * size).from_buffer(view.cast("B")), size
+    return (ctypes.c_char * view.nbytes).from_buffer(view), view.nbytes
 
 
 def _roomy(size, export, *given):
@@ -242,7 +297,7 @@ def _roomy(size, export, *given):
     while True:
         room = ctypes.create_string_buffer(max(size, 1))
         status = export(*given, room, size, told)
-        if status != 65 or told.length <= size:
+        if told.length <= size:
             return status, told, room.raw[: told.length]
         size = told.length
 
@@ -257,14 +312,20 @@ def _write(size, export, *given):
 
 def assemble(source):
     """The bytes of the program that a source text says."""
-    source = source.encode()
+    source = _text(source, "source")
     return _write(8 * 4096, _assemble, source, len(source))
 
 
 def disassemble(code):
     """The lines of the program that the bytes spell."""
-    code = bytes(code)
-    return _write(8 * len(code), _disassemble, code, len(code)).decode("ascii")
+    code = _bytes(code, "code")
+    return _write(1 << 14, _disassemble, code, len(code)).decode("ascii")
+
+
+def _asked_of(need, code, source):
+    """A program and its source text, as calls take them."""
+    need, code, source = _number(need, _WORD, "need"), _bytes(code, "code"), _text(source, "source")
+    return need, code, len(code), source, len(source)
 
 
 def explain(need, code, source=""):
@@ -274,18 +335,10 @@ def explain(need, code, source=""):
     >>> print(explain(9, assemble("ldxb r0, [r1+9]\\nexit")).splitlines()[0])
     refused 33: access out of the part at slot 0
     """
-    code, source, told, size = bytes(code), source.encode(), _Written(), 4096
-    need = _number(need, _WORD, "need")
-    while True:
-        room = ctypes.create_string_buffer(size)
-        status = _explain(need, code, len(code), source, len(source), room, size, told)
-        if status == 0:
-            return None
-        if status == 99:
-            raise Error(status)
-        if told.length <= size:
-            return room.raw[: told.length].decode()
-        size = told.length
+    status, _, text = _roomy(4096, _explain, *_asked_of(need, code, source))
+    if status == 99:
+        raise Error(status)
+    return text.decode() if status else None
 
 
 def graph(need, code, source=""):
@@ -296,9 +349,7 @@ def graph(need, code, source=""):
     >>> print(graph(0, assemble("mov64 r0, 1\\nexit")).splitlines()[0])
     digraph program {
     """
-    code, source = bytes(code), source.encode()
-    given = (_number(need, _WORD, "need"), code, len(code), source, len(source))
-    status, told, text = _roomy(1 << 14, _graph, *given)
+    status, told, text = _roomy(1 << 14, _graph, *_asked_of(need, code, source))
     if not told.length:
         raise Error(status, told.place if told.has_place else None)
     return text.decode()
@@ -313,34 +364,30 @@ def trace(need, code, memory, argument=0, credit=2**31 - 1, source=""):
     >>> [step["registers"] for step in trace(0, assemble("mov64 r0, r3\\nexit"), b"", argument=7)]
     [{'r0': '7'}, {}]
     """
-    code, source, memory = bytes(code), source.encode(), bytes(memory)
-    given = (_number(need, _WORD, "need"), code, len(code), source, len(source))
+    given, memory = _asked_of(need, code, source), _bytes(memory, "memory")
     run = (_number(credit, _WORD, "credit"), _number(argument, 2**64, "argument"))
     text = _write(1 << 14, _trace, *given, *run, memory, len(memory))
     return [json.loads(line) for line in text.splitlines()]
 
 
+def _passed(status):
+    if status:
+        raise Error(status)
+
+
 def _executed(outcome):
-    if outcome.status:
-        return Error(outcome.status)
+    _passed(outcome.status)
     return Executed(outcome.r0, outcome.used)
-
-
-def _told(outcome):
-    told = _executed(outcome)
-    if isinstance(told, Error):
-        raise told
-    return told
 
 
 def run_once(need, code, memory, argument=0, credit=2**31 - 1):
     """Verifies a program and runs it once on the memory, in place. Nothing is held afterwards."""
-    code, outcome = bytes(code), _Outcome()
+    code, outcome = _bytes(code, "code"), _Outcome()
     need, credit = _number(need, _WORD, "need"), _number(credit, _WORD, "credit")
     argument = _number(argument, 2**64, "argument")
     room, size = _lent(memory)
     _run(need, code, len(code), credit, argument, room, size, outcome)
-    return _told(outcome)
+    return _executed(outcome)
 
 
 _FIRST_HELPER, _NO_HELPER, _ASKS, _ENDED = 64, _WORD - 1, 1, 2
@@ -348,15 +395,51 @@ _FIRST_HELPER, _NO_HELPER, _ASKS, _ENDED = 64, _WORD - 1, 1, 2
 
 def _arities(helpers):
     """How many arguments each helper of a host's takes, by its id from 64 on."""
-    if not all(_FIRST_HELPER <= helper < 128 for helper in helpers):
-        raise Error(44)
     words = (_U32 * 64)(*[_NO_HELPER] * 64)
-    for helper, arity in helpers.items():
-        words[helper - _FIRST_HELPER] = _number(arity, _WORD - 1, "a number of arguments")
+    for helper, arity in dict(_of(Mapping, helpers, "helpers")).items():
+        place = _whole(helper, "a helper") - _FIRST_HELPER
+        if not 0 <= place < 64:
+            raise Error(44)
+        words[place] = _number(arity, _WORD - 1, "a number of arguments")
     return words
 
 
-class Program:
+class _Held:
+    """What the library holds by a handle, from __new__ on, so that there is always a handle.
+
+    One call at a time uses it, and calls from other threads wait. One of the same thread comes from
+    a signal or from what is thrown away, and never while the library runs, so it is let in."""
+
+    def __new__(cls, *_given, **_named):
+        made = super().__new__(cls)
+        made._lock, made._handle = threading.RLock(), cls._HANDLE()
+        return made
+
+    def close(self):
+        """Lets go of what the library holds, which is freed with its last owner. From then on calls
+        are refused: those of a task by 47, and the others by 41."""
+        with self._lock:
+            self._FREE(self._handle)
+
+    def __enter__(self):
+        return self
+
+    def __exit__(self, *_):
+        self.close()
+
+    def __del__(self):
+        # nobody else has it any more, so the lock is free, unless somebody calls this by hand, or
+        # in a forked child whose parent had a call under way
+        lock = getattr(self, "_lock", None)
+        if lock is not None and lock.acquire(blocking=False):
+            self._FREE(self._handle)
+            lock.release()
+
+    def __reduce__(self):
+        raise TypeError(f"a {type(self).__name__} that the library holds can't be copied")
+
+
+class Program(_Held):
     """A program that was accepted, and that the library holds: the bytes of memory that a run
     needs, the most that it uses of its credit, and its code.
 
@@ -366,183 +449,147 @@ class Program:
     One call at a time uses a program. Calls from several threads wait for each other; share gives
     each thread one of its own, and those run side by side."""
 
+    _HANDLE, _FREE = _Program, staticmethod(_unload)
+    need, code, cost = 0, b"", 0
+
     def __init__(self, need, code, helpers=None):
-        self._lock, self._handle = threading.Lock(), _Program()
-        self.need, self.code = _number(need, _WORD, "need"), bytes(code)
-        verdict, given = _Verdict(), (self.need, self.code, len(self.code))
-        if helpers:
-            words = _arities(helpers)
-            status = _load_with(*given, words, len(words), self._handle, verdict)
-        else:
-            status = _load(*given, self._handle, verdict)
+        need, code, verdict = _number(need, _WORD, "need"), _bytes(code, "code"), _Verdict()
+        load, words = (_load, ()) if helpers is None else (_load_with, (_arities(helpers), 64))
+        with self._lock:
+            status = load(need, code, len(code), *words, self._handle, verdict)
         if status:
             raise Error(verdict.status, verdict.slot if verdict.has_slot else None)
-        self.cost = verdict.cost
+        self.need, self.code, self.cost = need, code, verdict.cost
+
+    def _credit(self, credit):
+        """The credit of a run, which is the cost where none is given."""
+        return _number(self.cost if credit is None else credit, _WORD, "credit")
 
     def execute(self, memory, argument=0, credit=None):
-        """Runs the program once with the memory as its part, in place, and with its cost as the
-        credit if none is given."""
-        outcome = _Outcome()
-        credit = self.cost if credit is None else _number(credit, _WORD, "credit")
+        """Runs the program once, in place, with the memory as its part."""
+        outcome, credit = _Outcome(), self._credit(credit)
         argument = _number(argument, 2**64, "argument")
         room, size = _lent(memory)
         with self._lock:
             _run_held(self._handle, credit, argument, room, size, outcome)
-        return _told(outcome)
+        return _executed(outcome)
 
     def burst(self, memory, pieces, credit=None):
         """Runs the program on each piece of the memory in turn, given as (start, length, argument).
         For each run there is an Executed, or the Error that it was refused by."""
-        credit = self.cost if credit is None else _number(credit, _WORD, "credit")
-        pieces = list(pieces)
+        credit, pieces = self._credit(credit), _items(pieces, "pieces")
         runs = (_Run * max(len(pieces), 1))()
-        for run, (start, length, argument) in zip(runs, pieces):
+        for run, piece in zip(runs, pieces):
+            start, length, argument = _items(piece, "a piece", 3)
             run.start = _number(start, 2**64, "start")
             run.length = _number(length, 2**64, "length")
             run.argument = _number(argument, 2**64, "argument")
         room, size = _lent(memory)
         with self._lock:
-            status = _burst_held(self._handle, credit, room, size, runs, len(pieces))
-        if status:
-            raise Error(status)
-        return [_executed(run.outcome) for run in runs[: len(pieces)]]
+            _passed(_burst_held(self._handle, credit, room, size, runs, len(pieces)))
+        outcomes = [run.outcome for run in runs[: len(pieces)]]
+        return [Error(it.status) if it.status else Executed(it.r0, it.used) for it in outcomes]
 
     def share(self):
         """One more owner of the same program, for another thread. Nothing is verified again."""
-        other = object.__new__(Program)
-        other._lock, other._handle = threading.Lock(), _Program()
+        other = Program.__new__(Program)
         other.need, other.code, other.cost = self.need, self.code, self.cost
         with self._lock:
-            status = _share(self._handle, other._handle)
-        if status:
-            raise Error(status)
+            _passed(_share(self._handle, other._handle))
         return other
 
-    def close(self):
-        """Lets go of the program, which is freed with its last owner. From then on runs are refused
-        by 41."""
-        with self._lock:
-            _unload(self._handle)
 
-    def __enter__(self):
-        return self
-
-    def __exit__(self, *_):
-        self.close()
-
-    def __del__(self):
-        # nobody else has the program any more, so no call of it is under way
-        if hasattr(self, "_handle") and _unload is not None:
-            _unload(self._handle)
-
-    def __reduce__(self):
-        raise TypeError("a program that the library holds can't be copied: share it")
-
-
-class HostedTask:
+class HostedTask(_Held):
     """A task whose run stops where it asks its host, on a memory of so many bytes. It holds its
     program, which may be closed. One call at a time uses a task."""
 
+    _HANDLE, _FREE = _TaskHandle, staticmethod(_drop)
+
     def __init__(self, program, length, argument=0, credit=None):
-        self._lock, self._handle = threading.Lock(), _TaskHandle()
-        credit = program.cost if credit is None else _number(credit, _WORD, "credit")
-        argument = _number(argument, 2**64, "argument")
-        length = _number(length, 2**63, "length")
-        with program._lock:
-            status = _start(program._handle, credit, argument, length, self._handle)
-        if status:
-            raise Error(status)
+        credit = _of(Program, program, "program")._credit(credit)
+        argument, length = _number(argument, 2**64, "argument"), _number(length, 2**64, "length")
+        with program._lock, self._lock:
+            _passed(_start(program._handle, credit, argument, length, self._handle))
 
     def go(self, memory, answer=0, limit=_WORD - 1):
         """Goes on, with this answer where the task waits for one. Then as many instructions run as
         the limit says, until one ends the task or asks. Answers an Executed, an Asked, or None at
         the limit."""
         event = _Event()
-        answer = _number(answer, 2**64, "answer")
-        limit = _number(limit, _WORD, "limit")
+        answer, limit = _number(answer, 2**64, "answer"), _number(limit, _WORD, "limit")
         room, size = _lent(memory)
         with self._lock:
-            status = _go(self._handle, answer, room, size, limit, event)
-        if status:
-            raise Error(status)
+            _passed(_go(self._handle, answer, room, size, limit, event))
         if event.kind == _ENDED:
             return Executed(event.r0, event.used)
         return Asked(event.helper, tuple(event.arguments)) if event.kind == _ASKS else None
 
     def run(self, memory, helpers):
         """Runs the task to its end. Each call of a helper is answered by its callable, which is
-        given the five arguments. What it answers is cut to 64 bits."""
-        answer = 0
+        given the five arguments. What it answers is a whole number, which is cut to 64 bits."""
+        answer, helpers = 0, _of(Mapping, helpers, "helpers")
         while True:
             told = self.go(memory, answer)
             if isinstance(told, Executed):
                 return told
             if told is not None:
-                answer = int(helpers[told.helper](*told.arguments)) % 2**64
-
-    def close(self):
-        """Lets go of the task. From then on it is refused by 47."""
-        with self._lock:
-            _drop(self._handle)
-
-    def __enter__(self):
-        return self
-
-    def __exit__(self, *_):
-        self.close()
-
-    def __del__(self):
-        if hasattr(self, "_handle") and _drop is not None:
-            _drop(self._handle)
-
-    def __reduce__(self):
-        raise TypeError("a task that the library holds can't be copied")
+                answer = _whole(helpers[told.helper](*told.arguments), "an answer") % 2**64
 
 
 class Machine:
     """Runs a program: its calls by another name."""
 
     def __init__(self, program):
-        self.program, self.execute, self.burst = program, program.execute, program.burst
+        self.program = _of(Program, program, "program")
+        self.execute, self.burst = program.execute, program.burst
 
 
 class Job:
     """The programs of a job by their places, each as (need, code). The first is the root's."""
 
+    _programs = (b"", 0, (_Piece * 1)(), 0)
+
     def __init__(self, *programs):
-        self._code = b"".join(bytes(code) for _, code in programs)
-        self._pieces, start = (_Piece * max(len(programs), 1))(), 0
-        self._count = len(programs)
-        for piece, (need, code) in zip(self._pieces, programs):
-            piece.start, piece.length, piece.need = start, len(code), _number(need, _WORD, "need")
+        pairs = (_items(program, "a program", 2) for program in programs)
+        programs = [(_number(need, _WORD, "need"), _bytes(code, "code")) for need, code in pairs]
+        pieces, start = (_Piece * max(len(programs), 1))(), 0
+        for piece, (need, code) in zip(pieces, programs):
+            piece.start, piece.length, piece.need = start, len(code), need
             start += len(code)
+        # at once, since a thread may play the job meanwhile
+        self._programs = (b"".join(code for _, code in programs), start, pieces, len(programs))
 
     def play(self, buffer, credit, room=1024):
         """Verifies the programs, and plays the job to its end on the buffer, in place, in this
         thread: always the live task of lowest number next. Of its tasks the first are told, up to
         so many."""
+        credit, room = _number(credit, _WORD, "credit"), _number(room, 2**64, "room")
+        if room > _MANY:
+            # so much is taken only where there are as many tasks
+            room = min(room, self.play(bytearray(_bytes(buffer, "memory")), credit, 0).count)
         tasks, report = (_Task * max(room, 1))(), _Report()
-        credit = _number(credit, _WORD, "credit")
         lent, size = _lent(buffer)
-        if _job(*self._programs(), credit, lent, size, tasks, room, report):
+        if _job(*self._programs, credit, lent, size, tasks, room, report):
             raise _refused_job(report)
         count = min(room, report.tasks)
         told = [Task(*(getattr(task, name) for name in Task._fields)) for task in tasks[:count]]
         return Report(report.spent, report.returned, report.tasks, told)
-
-    def _programs(self):
-        return self._code, len(self._code), self._pieces, self._count
 
     def trace(self, buffer, credit, schedule):
         """The steps of the job on a copy of the buffer, along a schedule: the numbers of the tasks
         whose instruction is next, of which those that aren't alive are passed over. A step is as
         that of `trace`, with its `task`, and `r0` where the task ends or `spawned` where it has a
         child: its number `task`, its `program`, `share`, `argument` and `bytes`."""
-        buffer = bytes(buffer)
+        schedule = [_number(task, _WORD, "a task") for task in _items(schedule, "schedule")]
         numbers = (_U32 * max(len(schedule), 1))(*schedule)
-        given = (*self._programs(), _number(credit, _WORD, "credit"), buffer, len(buffer))
+        given = self._given(buffer, credit)
         text = _write(1 << 16, _job_trace, *given, numbers, len(schedule))
         return [json.loads(line) for line in text.splitlines()]
+
+    def _given(self, buffer, credit):
+        """The job on a copy of a buffer, as calls take it."""
+        credit, buffer = _number(credit, _WORD, "credit"), _bytes(buffer, "buffer")
+        return (*self._programs, credit, buffer, len(buffer))
 
     def open(self, buffer, credit):
         """The job at its start, on a copy of the buffer, as a World."""
@@ -560,25 +607,24 @@ ended, and whether it was alive at all; how many tasks there are, the credit tha
 that ended ones returned and spent, and that all have used; and whether no task is alive."""
 
 
-class World:
-    """A job under way, of which the caller says whose instruction is next. One call at a time uses
-    it."""
+class World(_Held):
+    """A job under way, of which the caller says whose instruction is next."""
+
+    _HANDLE, _FREE = _World, staticmethod(_world_drop)
 
     def __init__(self, job, buffer, credit):
-        self._lock, self._handle, self._size = threading.Lock(), _World(), len(buffer)
-        report, buffer = _Report(), bytes(buffer)
-        given = (*job._programs(), _number(credit, _WORD, "credit"), buffer, len(buffer))
-        if _world_open(*given, self._handle, report):
+        given, report = _of(Job, job, "job")._given(buffer, credit), _Report()
+        with self._lock:
+            status = _world_open(*given, self._handle, report)
+        if status:
             raise _refused_job(report)
 
     def run(self, number, limit=1):
         """Runs a task on: so many instructions at most, or until it ends."""
+        number, limit = _number(number, _WORD, "number"), _number(limit, _WORD, "limit")
         step = _Step()
-        given = (_number(number, _WORD, "number"), _number(limit, _WORD, "limit"))
         with self._lock:
-            status = _world_run(self._handle, *given, step)
-        if status:
-            raise Error(status)
+            _passed(_world_run(self._handle, number, limit, step))
         r0 = step.r0 if step.came_to == 2 else None
         told = (step.tasks, step.held, step.returned, step.spent, step.used)
         return Stepped(step.count, r0, step.came_to != 0, *told, bool(step.is_complete))
@@ -586,32 +632,10 @@ class World:
     def buffer(self):
         """The buffer as it is now."""
         with self._lock:
-            return _write(self._size, _world_buffer, self._handle)
-
-    def close(self):
-        """Lets go of the job. From then on it is refused by 41."""
-        with self._lock:
-            _world_drop(self._handle)
-
-    def __enter__(self):
-        return self
-
-    def __exit__(self, *_):
-        self.close()
-
-    def __del__(self):
-        if hasattr(self, "_handle") and _world_drop is not None:
-            _world_drop(self._handle)
-
-    def __reduce__(self):
-        raise TypeError("a job that the library holds can't be copied")
+            return _write(1 << 14, _world_buffer, self._handle)
 
 
 # ---- desks
-
-
-class _Desk(ctypes.Structure):
-    _fields_ = [("held", ctypes.c_void_p), ("made", _BOOL)]
 
 
 class _Sent(ctypes.Structure):
@@ -642,21 +666,38 @@ HandedJob = namedtuple("HandedJob", "number text")
 HandedJob.__doc__ = "A job that a desk handed over: its number, and its object as JSON."
 
 
+def _job_of(text):
+    """The job that an object says, its credit and its buffer."""
+    try:
+        said = json.loads(text)
+        programs = [(each["need"], bytes.fromhex(each["code"])) for each in said["programs"]]
+        credit = _number(said["credit"], _WORD, "credit")
+        return Job(*programs), credit, bytes.fromhex(said["buffer"])
+    except (LookupError, TypeError, RecursionError) as error:
+        raise ValueError(f"no job object: {error!r}") from error
+
+
 def play_text(text):
     """Plays a job object in this thread, as Job.play does. It answers the report, with all tasks,
     and the buffer as the job left it: what Desk.finish takes."""
-    said = json.loads(text)
-    job = Job(*((program["need"], bytes.fromhex(program["code"])) for program in said["programs"]))
+    job, credit, before = _job_of(text if isinstance(text, str) else _bytes(text, "text"))
     room = 64
     while True:
-        buffer = bytearray.fromhex(said["buffer"])
-        report = job.play(buffer, said["credit"], room)
+        buffer = bytearray(before)
+        report = job.play(buffer, credit, room)
         if report.count <= room:
             return report, bytes(buffer)
         room = report.count
 
 
-class Desk:
+def _ended(task):
+    """A task that ended, as the library takes it."""
+    _of(Task, task, "a task")
+    limits = ((name, 2 ** (8 * ctypes.sizeof(kind))) for name, kind in _Task._fields_)
+    return _Task(*(_number(getattr(task, name), limit, name) for name, limit in limits))
+
+
+class Desk(_Held):
     """Accounts and jobs of many clients, whatever carries their bytes: the protocol of the server,
     as bytes in and bytes out. The host runs the jobs.
 
@@ -679,42 +720,45 @@ class Desk:
     '{"balance":98,"granted":100,"ok":true,"open":0,"spent":2}'
     """
 
-    def __init__(self):
-        self._lock, self._handle, self._room = threading.Lock(), _Desk(), 4096
-        self._check(_desk_new(self._handle))
+    _HANDLE, _FREE, _room = _Desk, staticmethod(_desk_free), 4096
 
-    @staticmethod
-    def _check(status):
-        if status:
-            raise Error(status)
+    def __init__(self):
+        with self._lock:
+            _passed(_desk_new(self._handle))
 
     def connect(self):
         """Begins a conversation with a client, and answers the number of its connection."""
         number = _U64()
         with self._lock:
-            self._check(_connect(self._handle, number))
+            _passed(_connect(self._handle, number))
         return number.value
 
     def feed(self, connection, piece):
         """Takes bytes that came on a connection, and answers each frame that is whole now. The
         conversation is over after an Error of 71 or 99; the reply to what was 71 waits too. The
         replies to a piece are held until they are sent, so give few bytes at once."""
-        piece, connection = bytes(piece), _number(connection, 2**64, "connection")
+        piece, connection = _bytes(piece, "piece"), _number(connection, 2**64, "connection")
         with self._lock:
-            self._check(_feed(self._handle, connection, piece, len(piece)))
+            _passed(_feed(self._handle, connection, piece, len(piece)))
 
     def replies(self, connection, most=65536):
         """Bytes that are to be sent on a connection, at most so many. They count as sent."""
-        room, sent = ctypes.create_string_buffer(max(most, 1)), _Sent()
-        connection = _number(connection, 2**64, "connection")
+        connection, most = _number(connection, 2**64, "connection"), _number(most, 2**64, "most")
+        sent = _Sent()
         with self._lock:
-            self._check(_replies(self._handle, connection, room, most, sent))
+            if most > _MANY:
+                # so much is taken only where there is as much to send
+                _passed(_replies(self._handle, connection, b"", 0, sent))
+                most = min(most, sent.left)
+            room = ctypes.create_string_buffer(max(most, 1))
+            _passed(_replies(self._handle, connection, room, most, sent))
         return room.raw[: sent.count]
 
     def disconnect(self, connection):
         """Ends the conversation of a connection, and drops what was still to be sent."""
+        connection = _number(connection, 2**64, "connection")
         with self._lock:
-            self._check(_disconnect(self._handle, _number(connection, 2**64, "connection")))
+            _passed(_disconnect(self._handle, connection))
 
     def next_job(self):
         """The job of lowest number that waits, handed over once, or None."""
@@ -722,11 +766,11 @@ class Desk:
         with self._lock:
             while True:
                 room = ctypes.create_string_buffer(self._room)
-                status = _next_job(self._handle, room, self._room, handed)
+                status = _next_job(self._handle, room, len(room), handed)
                 if status != 65:
                     break
                 self._room = handed.length
-        self._check(status)
+        _passed(status)
         if handed.job == 0:
             return None
         return HandedJob(handed.job, room.raw[: handed.length].decode())
@@ -734,40 +778,22 @@ class Desk:
     def finish(self, number, report, buffer):
         """Ends a job that was handed over with its report, and the buffer as the job left it. A
         second report is refused by 76."""
-        told = _Report(spent=report.spent, returned=report.returned, tasks=report.count)
-        tasks = (_Task * max(len(report.tasks), 1))()
-        for task, ended in zip(tasks, report.tasks):
-            for name, value in ended._asdict().items():
-                setattr(task, name, value)
-        self._end(number, told, bytes(buffer), tasks, len(report.tasks))
+        _of(Report, report, "report")
+        sums = {name: _number(getattr(report, name), _WORD, name) for name in ("spent", "returned")}
+        told = _Report(tasks=_number(report.count, 2**64, "count"), **sums)
+        ends = [_ended(task) for task in _items(report.tasks, "tasks")]
+        tasks = (_Task * max(len(ends), 1))(*ends)
+        self._end(number, told, _bytes(buffer, "buffer"), tasks, len(ends))
 
     def fail(self, number, code):
         """Ends a job that was handed over by the number of what it failed by. Its whole credit goes
         back."""
-        told = _Report(status=_number(code, 256, "code"))
-        if code == 0:
+        status = _number(code, 256, "code")
+        if status == 0:
             raise ValueError("0 is no failure")
-        self._end(number, told, b"", (_Task * 1)(), 0)
+        self._end(number, _Report(status=status), b"", (_Task * 1)(), 0)
 
     def _end(self, number, told, buffer, tasks, count):
         number = _number(number, 2**64, "number")
         with self._lock:
-            self._check(_finish(self._handle, number, told, buffer, len(buffer), tasks, count))
-
-    def close(self):
-        """Lets go of the desk. From then on calls are refused by 41."""
-        with self._lock:
-            _desk_free(self._handle)
-
-    def __enter__(self):
-        return self
-
-    def __exit__(self, *_):
-        self.close()
-
-    def __del__(self):
-        if hasattr(self, "_handle") and _desk_free is not None:
-            _desk_free(self._handle)
-
-    def __reduce__(self):
-        raise TypeError("a desk can't be copied")
+            _passed(_finish(self._handle, number, told, buffer, len(buffer), tasks, count))

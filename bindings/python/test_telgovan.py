@@ -95,6 +95,9 @@ class Calls(Refusing):
         self.assertEqual(len(text.splitlines()), 16)
         self.assertEqual(assemble(text), self.program.code)
         self.refused(2, None, disassemble, bytes(7))
+        # a text that is longer than the first room
+        longest = assemble("mov64 r0, -2147483648\n" * 4095 + "exit")
+        self.assertEqual(assemble(disassemble(longest)), longest)
 
     def test_explains_a_refusal(self):
         source = source_of("byte_at.bpf")

@@ -113,7 +113,7 @@ impl Program {
 
     /// Runs the program on each piece of the memory in turn, each time with this credit. A run that
     /// is refused, as by `execute` and by 43 where the memory has no such piece, doesn't stop the
-    /// next.
+    /// next. A program that may call helpers of the host's runs as a task: each run is refused by 48.
     pub fn burst(
         &mut self,
         memory: &mut [u8],
@@ -121,9 +121,8 @@ impl Program {
         credit: u32,
     ) -> Vec<Result<Executed, Error>> {
         let mut runs: Vec<raw::Run> = pieces.iter().map(Piece::run).collect();
-        // The library writes the handle, the memory and the runs alone. The handle holds a program,
-        // so that the call is not refused.
-        unsafe {
+        // The library writes the handle, the memory and the runs alone.
+        let status = unsafe {
             raw::telgovan_program_burst(
                 &mut self.handle,
                 credit,
@@ -133,6 +132,10 @@ impl Program {
                 runs.len(),
             )
         };
+        if status != 0 {
+            // nothing ran, and no run was told
+            return vec![Err(Error::at(status, false, 0)); runs.len()];
+        }
         runs.iter().map(|run| executed(run.outcome)).collect()
     }
 

@@ -21,7 +21,7 @@ pub fn assemble(source: &str) -> Result<Vec<u8>, Error> {
 
 /// The lines of the program that the bytes spell.
 pub fn disassemble(code: &[u8]) -> Result<String, Error> {
-    let lines = written(8 * code.len(), |room, told| unsafe {
+    let lines = written(1 << 14, |room, told| unsafe {
         raw::telgovan_disassemble(
             code.as_ptr(),
             code.len(),

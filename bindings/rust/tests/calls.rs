@@ -140,6 +140,11 @@ fn reads_back_what_it_writes() {
             place: None
         })
     );
+    // a text that is longer than the first room, and bytes that no room is taken for
+    let longest = code(&format!("{}exit", "mov64 r0, -2147483648\n".repeat(4095)));
+    assert_eq!(code(&disassemble(&longest).expect("a listing")), longest);
+    let number = disassemble(&vec![0; 1 << 24]).expect_err("too long").number;
+    assert_eq!(number, 3);
 }
 
 #[test]

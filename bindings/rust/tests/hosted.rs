@@ -1,8 +1,9 @@
 //! Tasks that stop where they ask their host.
 
+use std::panic::{catch_unwind, AssertUnwindSafe};
 use std::thread;
 
-use telgovan::{assemble, Error, Event, Executed, Helpers, HostedTask, Program, Question};
+use telgovan::{assemble, Error, Event, Executed, Helpers, HostedTask, Piece, Program, Question};
 
 fn helpers() -> Helpers<'static> {
     let mut helpers = Helpers::new();
@@ -100,11 +101,25 @@ fn a_limit_of_nothing_still_answers() {
 fn refuses_what_is_too_little() {
     let mut program = program(&helpers());
     let mut start = |credit, length| number(HostedTask::start(&mut program, credit, 0, length));
+    assert_eq!(start(32, usize::MAX), 65);
     assert_eq!(start(31, 2), 42);
     assert_eq!(start(32, 1), 43);
     assert_eq!(start(32, 65_537), 65);
     assert_eq!(start(1 << 31, 2), 65);
     assert_eq!(number(program.execute(&mut [0; 2], 0, 32)), 48);
+    let mut memory = [7; 4];
+    let pieces = [2, 0, 9].map(|start| Piece {
+        start,
+        length: 2,
+        argument: 0,
+    });
+    let numbers: Vec<u32> = program
+        .burst(&mut memory, &pieces, 32)
+        .into_iter()
+        .map(number)
+        .collect();
+    assert_eq!((numbers, memory), (vec![48; 3], [7; 4]));
+    assert_eq!(program.burst(&mut memory, &[], 32), []);
     let mut task = HostedTask::start(&mut program, 32, 0, 2).expect("started");
     assert_eq!(number(task.go(0, &mut [0; 3], 9)), 43);
     assert_eq!(task.go(0, &mut [0; 2], 9), Ok(asks(64, 0, 0)));
@@ -126,6 +141,39 @@ fn refuses_helpers_that_there_cannot_be() {
     let mut task = HostedTask::start(&mut program, 9, 0, 0).expect("started");
     drop(program);
     assert_eq!(task.run(&mut [], &mut helpers).expect("ran").r0, 9);
+}
+
+#[test]
+fn a_helper_that_panics_leaves_the_task() {
+    let mut task = HostedTask::start(&mut program(&helpers()), 32, 0, 2).expect("started");
+    let mut memory = [3, 4];
+    let mut panics = Helpers::new();
+    panics
+        .register(64, 1, |_, _, _, _, _| panic!("no such key"))
+        .expect("an id");
+    let run = AssertUnwindSafe(|| task.run(&mut memory, &mut panics));
+    assert!(catch_unwind(run).is_err());
+    // it waits for the answer still
+    assert_eq!(task.go(30, &mut memory, 9), Ok(asks(64, 4, 0)));
+}
+
+#[test]
+fn a_helper_goes_on_with_another_task() {
+    let mut program = program(&helpers());
+    let mut task = HostedTask::start(&mut program, 32, 0, 2).expect("started");
+    let mut nested = Helpers::new();
+    nested
+        .register(64, 1, |key, _, _, _, _| {
+            let mut inner = HostedTask::start(&mut program, 32, 0, 2).expect("started");
+            let done = inner.run(&mut [key as u8, 1], &mut helpers()).expect("ran");
+            done.r0
+        })
+        .expect("an id");
+    nested
+        .register(65, 2, |a, b, _, _, _| a + b)
+        .expect("an id");
+    // each inner task has 10 times the sum of its two bytes
+    assert_eq!(task.run(&mut [3, 4], &mut nested).expect("ran").r0, 90);
 }
 
 #[test]
