@@ -143,7 +143,8 @@ class Compacted(Long):
         self.write(before + b"torn")
         status, lines = self.server.run()
         cut, compacted = lines.splitlines(keepends=True)
-        self.assertEqual((status, cut), (0, f"bpfjobs: {self.server.journal}: cut off 4 bytes of a torn record\n"))
+        line = f"bpfjobs: {self.server.journal}: cut off 4 bytes of a torn record, which {self.server.journal}.torn has\n"
+        self.assertEqual((status, cut), (0, line))
         self.check_compacted(before, compacted)
         self.assertEqual(self.told(self.start()), told)
 

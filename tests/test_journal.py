@@ -277,13 +277,21 @@ class Files(Room):
 class Damage(Room):
     """Journals that aren't whole. No reply tells a wrong sum, and none is changed behind the operator's back."""
 
-    TORN = "bpfjobs: {}: cut off {} bytes of a torn record\n"
+    TORN = "bpfjobs: {0}: cut off {1} bytes of a torn record, which {0}.torn has\n"
 
     def check_cut(self, data, whole):
-        """A journal of which so many bytes are whole records, and no record stands behind them."""
+        """A journal of which so many bytes are whole records, and no record stands behind them. Where there is no record,
+        it isn't taken for a journal."""
         self.write(data)
+        kept = f"{self.server.journal}.torn"
+        with contextlib.suppress(FileNotFoundError):
+            os.unlink(kept)
+        if data and whole == 0:
+            self.assertIn("no journal, and left as it is", self.refused())
+            return
         told = self.TORN.format(self.server.journal, len(data) - whole) if whole < len(data) else ""
         self.assertEqual(self.server.run(), (0, told))
+        self.assertEqual(read(kept) if whole < len(data) else b"", data[whole:])
         # jobs that were open have ended meanwhile
         self.assertEqual(self.data()[:whole], data[:whole])
         self.assertEqual(payloads_of(self.data())[1], b"")
@@ -333,10 +341,6 @@ class Damage(Room):
                 following = starts[starts.index(start) + 1]
                 told = f"damaged at byte {start}: a whole record stands at byte {following}"
                 self.assertEqual(self.refused(), told)
-
-    def test_bytes_of_something_else(self):
-        """A text is no journal: but it is taken for a torn record, and cut off."""
-        self.check_cut(b"a text\n" * 9, 0)
 
     def test_records_that_say_no_change(self):
         data = self.small()

@@ -167,8 +167,15 @@ class Told(Room):
         return f"bpfjobs: {self.server.journal}: {text}\n"
 
     def check_whole(self, data, whole=None):
-        """The records of these bytes are told, and behind them nothing, or a torn record, which isn't cut off."""
+        """The records of these bytes are told, and behind them nothing, or a torn record, which isn't cut off. Where there
+        is no record, it isn't taken for a journal."""
         self.write(data)
+        if data and whole == 0:
+            for words in ((), ("--check",)):
+                status, told, line = self.journal(*words)
+                self.assertEqual((status, told), (3, ""))
+                self.assertIn("no journal, and left as it is", line)
+            return
         whole = len(data) if whole is None else whole
         torn = len(data) - whole
         tail = self.line(f"{torn} bytes of a torn record at byte {whole}") if torn else ""

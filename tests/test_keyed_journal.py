@@ -378,7 +378,7 @@ class Damage(Room):
         self.server.kill()
         data, bob = self.server.data("alice"), self.server.data("bob")
         for start in starts_of(data):
-            for cut in {start, min(start + 9, len(data))}:
+            for cut in {start, min(start + 9, len(data))} if start else {0}:
                 self.write(data[:cut])
                 wanted = book_of(data[:start]) if cut < len(data) else book_of(data)
                 self.server.start()

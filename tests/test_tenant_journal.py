@@ -330,8 +330,10 @@ class Files(Room):
             with open(self.server.path(name), "wb") as file:
                 file.write(data + b"torn")
         status, lines = self.server.run()
-        cut = [f"bpfjobs: {self.server.path(name)}: cut off 4 bytes of a torn record" for name in whole]
-        self.assertEqual((status, lines.splitlines(), self.server.all_data()), (0, cut, whole))
+        cut = "bpfjobs: {0}: cut off 4 bytes of a torn record, which {0}.torn has".format
+        self.assertEqual((status, lines.splitlines()), (0, [cut(self.server.path(name)) for name in whole]))
+        torn = {f"{name}.torn": b"torn" for name in whole}
+        self.assertEqual(self.server.all_data(), {**whole, **torn})
         self.server.start()
         self.assertEqual(self.told(), told)
 

@@ -1,5 +1,6 @@
 //! The reasons why a journal's file isn't gone on with, and the lines that tell them.
 
+use crate::foreign_file::TakenFor;
 use bpfjobs_cli::FAILED;
 use journal::{HEADER_LEN, first_record};
 use keyed_desk::{KeyedChange, KeyedDesk};
@@ -15,6 +16,8 @@ pub const SEARCH_BUDGET: usize = 1 << 32;
 pub enum FileFault {
     System(io::Error),
     NoRegularFile,
+    /// It doesn't begin with a whole record.
+    NoJournal(TakenFor),
     InUse,
     NoMemory,
     Damaged { at: usize, record_at: usize },
@@ -36,6 +39,10 @@ fn tell_fault<R: Eprint>(rt: &R, path: &str, fault: FileFault) {
     let _ = match fault {
         FileFault::System(error) => eprintln!(rt; "bpfjobs: {path}: {error}"),
         FileFault::NoRegularFile => eprintln!(rt; "bpfjobs: {path}: no regular file"),
+        FileFault::NoJournal(taken_for) => {
+            let text = taken_for.text();
+            eprintln!(rt; "bpfjobs: {path}: no journal, and left as it is: it is taken for {text}")
+        }
         FileFault::InUse => eprintln!(rt; "bpfjobs: {path}: in use by another server"),
         FileFault::NoMemory => eprintln!(rt; "bpfjobs: {path}: no memory for what it has"),
         FileFault::Damaged { at, record_at } => eprintln!(rt;

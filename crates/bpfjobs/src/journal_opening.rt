@@ -1,8 +1,8 @@
 //! The files of a server's journals: each opened or made, locked, read, and replayed.
 
-ghost use Rattle.std.specs.Prelude.{◌≡◌, ◌+◌, ℕ, List, [], IfOk, IfSome, length, take};
+ghost use Rattle.std.specs.Prelude.{◌≡◌, ◌+◌, ◌⊎◌, ◌++◌, ℕ, List, [], IfOk, IfSome, length, take};
 ghost use Rattle.std.specs.Arc.{arc_value};
-ghost use Rattle.journal.specs.Records.{DecodesTo};
+ghost use Rattle.journal.specs.Records.{DecodesTo, FitsRecord, record_of};
 ghost use Rattle.journal_file.specs.FileLogs.{file_state};
 ghost use Rattle.shared_journal.specs.Places.{AreAtTheirPlaces, AreFollowed};
 ghost use Rattle.recovery.specs.Histories.{IsAfter};
@@ -10,9 +10,11 @@ ghost use Rattle.keyed_desk.specs.KeyedSnapshots.{AreKeyedAlike};
 ghost use Rattle.keyed_desk.specs.KeyedSteps.{IsNewKeyed, MakesKeyed};
 ghost use Rattle.compaction.specs.Snapshots.{LeadsToHistory};
 
+use crate::foreign_file::taken_for;
 use crate::journal_compacting::compacted;
 use crate::journal_faults::{FileFault, SEARCH_BUDGET, fault_of, refused};
 use crate::journal_following::JournalFollowers;
+use crate::torn_records::keep_torn;
 use bpfjobs_cli::{Serve, journal_paths};
 use journal_file::{FileLog, folder_of};
 use keyed_desk::{KeyedDesk, open_keyed_journal};
@@ -79,16 +81,38 @@ fn sync_name<R: Files<File = File>>(rt: &R, path: &str) -> io::Result<()> {
     File::open(rt, folder_of(path))?.sync_all()
 }
 
-// The first bytes, so many. Where others stood behind them, a line tells how many.
-fn first_bytes<R: Eprint>(rt: &R, path: &str, mut bytes: Vec<u8>, len: usize) -> Vec<u8>
-    ensures { result.items ≡ take len bytes.items }
+// The file, locked, and its bytes. It is made if it isn't there.
+fn locked_contents<R: Files<File = File>>(
+    rt: &R,
+    alloc: Global,
+    path: &str,
+) -> Result<(File, Vec<u8>), FileFault> {
+    let mut file = locked_file(rt, path)?;
+    let mut bytes = Vec::new(alloc);
+    file.read_to_end(&mut bytes)?;
+    Ok((file, bytes))
+}
+
+// The first bytes, so many. Others behind them are kept beside the file first, as a line tells.
+fn first_bytes<R: Files<File = File> + Eprint>(
+    rt: &R,
+    alloc: Global,
+    path: &str,
+    mut bytes: Vec<u8>,
+    len: usize,
+) -> io::Result<Vec<u8>>
+    ensures { IfOk result (λ first. first.items ≡ take len bytes.items) }
 {
     if len < bytes.len() {
         let cut = bytes.len() - len;
-        let _ = eprintln!(rt; "bpfjobs: {path}: cut off {cut} bytes of a torn record");
+        let kept = keep_torn(rt, alloc, path, bytes.split_at(len).1)?;
+        sync_name(rt, path)?;
+        let _ = eprintln!(rt;
+            "bpfjobs: {path}: cut off {cut} bytes of a torn record, which {kept} has"
+        );
     }
     bytes.truncate(len);
-    bytes
+    Ok(bytes)
 }
 
 // The desk that a file's records lead to, and a log that goes on right behind them, with its bytes:
@@ -105,12 +129,17 @@ fn replayed<R: Files<File = File> + Eprint>(
         × LeadsToHistory IsNewKeyed MakesKeyed AreKeyedAlike opened.1.items history opened.2) }
     ensures settled { IfOk result (λ opened. file_state opened.0
         ≡ record { durable = opened.1.items; pending = [] }) }
+    ensures begins { IfOk result (λ _. (bytes.items ≡ []) ⊎ ((payload : List ℕ) × (rest : List ℕ)
+        × FitsRecord payload × (bytes.items ≡ record_of payload ++ rest))) }
 {
     let Recovered { machine, len } = match open_keyed_journal(alloc, &bytes, SEARCH_BUDGET) {
         Ok(recovered) => recovered,
         Err(fault) => return Err(fault_of(alloc, &bytes, fault)),
     };
-    let whole = first_bytes(rt, path, bytes, len);
+    if let Some(taken_for) = taken_for(&bytes) {
+        return Err(FileFault::NoJournal(taken_for));
+    }
+    let whole = first_bytes(rt, alloc, path, bytes, len)?;
     let Ok(log) = FileLog::open(alloc, file, &whole) else {
         return Err(FileFault::NotCut);
     };
@@ -127,10 +156,8 @@ fn opened<R: Files<File = File> + Eprint>(
 ) -> Result<OpenedJournal, FileFault>
     ensures { IfOk result (λ opened. opened.journal.place ≡ place) }
 {
-    let mut file = locked_file(rt, path)?;
+    let (file, bytes) = locked_contents(rt, alloc, path)?;
     sync_name(rt, path)?;
-    let mut bytes = Vec::new(alloc);
-    file.read_to_end(&mut bytes)?;
     let (log, bytes, desk) = replayed(rt, alloc, path, file, bytes)?;
     let Ok((journal, follower)) = SharedJournal::new(alloc, place, log, bytes) else {
         return Err(FileFault::NoMemory);
@@ -144,11 +171,12 @@ fn opened<R: Files<File = File> + Eprint>(
 
 // Looks whether a file may be gone on with. It is made if it isn't there, and else stays as it is.
 fn examine<R: Files<File = File>>(rt: &R, alloc: Global, path: &str) -> Result<(), FileFault> {
-    let mut file = locked_file(rt, path)?;
-    let mut bytes = Vec::new(alloc);
-    file.read_to_end(&mut bytes)?;
+    let (_file, bytes) = locked_contents(rt, alloc, path)?;
     match open_keyed_journal(alloc, &bytes, SEARCH_BUDGET) {
-        Ok(_) => Ok(()),
+        Ok(_) => match taken_for(&bytes) {
+            Some(taken_for) => Err(FileFault::NoJournal(taken_for)),
+            None => Ok(()),
+        },
         Err(fault) => Err(fault_of(alloc, &bytes, fault)),
     }
 }
@@ -261,7 +289,8 @@ fn open_journals<R: Files<File = File> + Eprint>(
 
 /// The journals in the files that a server's words name, if they do, and the desks that their records
 /// lead to: first that of everybody else, and then one for each tenant; and who follows them. Where
-/// there is no file, it is made. A torn record at the end of one is cut off, which a line tells.
+/// there is no file, it is made. A torn record at the end of one is cut off and kept beside it, which a
+/// line tells. A file that isn't empty and doesn't begin with a whole record is refused.
 ///
 /// Where one of them isn't gone on with, a line names it and tells why, and the program ends with this
 /// status. A file that was there is then as it was, unless one changed while they were opened.

@@ -1,5 +1,6 @@
 //! The records of a journal's file as text, and the verdict on it. The file is only read.
 
+use crate::foreign_file::taken_for;
 use crate::journal_faults::{FileFault, SEARCH_BUDGET, damaged, fault_of, refused};
 use bpfjobs_cli::FAILED;
 use journal::TailKind;
@@ -20,19 +21,24 @@ fn contents<R: Files + AllocGlobal>(rt: &R, path: &str) -> Result<Vec<u8>, FileF
     Ok(fs::read(rt, path)?)
 }
 
-// Tells a torn record, which begins at this byte and has so many, and gives the status.
-fn told_torn<R: Eprint>(rt: &R, path: &str, at: usize, torn: usize) -> u8 {
+// Tells a torn record, which begins at this byte of a journal, and gives the status. A file that begins
+// with it is no journal.
+fn told_torn<R: Eprint>(rt: &R, path: &str, bytes: &[u8], at: usize) -> u8 {
+    if let Some(taken_for) = taken_for(bytes) {
+        return refused(rt, path, FileFault::NoJournal(taken_for));
+    }
+    let torn = bytes.len().saturating_sub(at);
     let _ = eprintln!(rt; "bpfjobs: {path}: {torn} bytes of a torn record at byte {at}");
     TOLD
 }
 
-// Tells what ends a journal of so many bytes, and gives the status.
-fn told_end<R: Eprint>(rt: &R, path: &str, len: usize, end: JournalEnd) -> u8 {
+// Tells what ends a journal of these bytes, and gives the status.
+fn told_end<R: Eprint>(rt: &R, path: &str, bytes: &[u8], end: JournalEnd) -> u8 {
     match end {
         JournalEnd::NotAChange { at } => refused(rt, path, FileFault::NotAChange { at }),
         JournalEnd::Tail { at, kind } => match kind {
             TailKind::Empty => TOLD,
-            TailKind::Torn => told_torn(rt, path, at, len.saturating_sub(at)),
+            TailKind::Torn => told_torn(rt, path, bytes, at),
             TailKind::Damaged { record_at } => refused(rt, path, damaged(at, record_at)),
             TailKind::Unsearched => refused(rt, path, FileFault::Unsearched { at }),
         },
@@ -43,7 +49,7 @@ fn told_end<R: Eprint>(rt: &R, path: &str, len: usize, end: JournalEnd) -> u8 {
 fn print_records<R: Print + Eprint>(rt: &R, alloc: Global, path: &str, bytes: &[u8]) -> u8 {
     let mut writer = Tap::new(io::writer(rt));
     match write_changes(alloc, bytes, SEARCH_BUDGET, &mut writer) {
-        Ok(end) => told_end(rt, path, bytes.len(), end),
+        Ok(end) => told_end(rt, path, bytes, end),
         Err(StreamFault::NoMemory) => refused(rt, path, FileFault::NoMemory),
         Err(_) => FAILED,
     }
@@ -68,7 +74,10 @@ fn print_count<R: Print>(rt: &R, path: &str, len: usize, count: RecordCount) -> 
 // Prints the verdict on the journal, and gives the status.
 fn print_verdict<R: Print + Eprint>(rt: &R, alloc: Global, path: &str, bytes: &[u8]) -> u8 {
     match check_journal(alloc, bytes, SEARCH_BUDGET) {
-        Ok(count) => print_count(rt, path, bytes.len(), count),
+        Ok(count) => match taken_for(bytes) {
+            Some(taken_for) => refused(rt, path, FileFault::NoJournal(taken_for)),
+            None => print_count(rt, path, bytes.len(), count),
+        },
         Err(fault) => refused(rt, path, fault_of(alloc, bytes, fault)),
     }
 }
@@ -76,7 +85,7 @@ fn print_verdict<R: Print + Eprint>(rt: &R, alloc: Global, path: &str, bytes: &[
 /// Prints the records of the journal in a file, a JSON object a line, and tells what ends them. Where it
 /// checks, it prints how many records there are instead, if a server would go on from all of them.
 ///
-/// Gives the status: 3 where the journal is damaged or the file can't be read, which a line tells, or
+/// Gives the status: 3 where the journal is damaged, the file is none or can't be read, which a line tells, or
 /// where the output fails; and else 0, also where the last record is torn.
 pub fn print_journal<R: Files + Print + Eprint + AllocGlobal>(
     rt: &R,

@@ -7,6 +7,7 @@ ghost use Rattle.bpfjobs_cli.specs.Performing.{NeedsNoThread};
 ghost use Rattle.std.specs.Prelude.{◌≡◌, ◌≤◌, ℕ, IfSome, length};
 ghost use Rattle.std.specs.Arc.{arc_value};
 
+mod foreign_file;
 mod journal_compacting;
 mod journal_faults;
 mod journal_following;
@@ -15,7 +16,9 @@ mod journal_reading;
 mod server_threads;
 mod serving;
 mod showing;
+mod socket_names;
 mod tenant_file;
+mod torn_records;
 
 use bpfjobs_cli::{
     Command, CommandRequest, FAILED, UNREAD, perform, perform_alone, print_usage, request, words,
@@ -26,6 +29,7 @@ use journal_reading::print_journal;
 use server_threads::handles_of;
 use serving::serve;
 use showing::{play_shown, run_shown};
+use socket_names::have_names_of_their_own;
 use std::alloc::{AllocError, Global};
 use std::fs::Files;
 use std::process::ExitCode;
@@ -122,6 +126,9 @@ fn main(rt: HostRuntime) -> ExitCode {
         Ok(server) => server,
         Err(status) => return ExitCode::from(status),
     };
+    if let Err(status) = have_names_of_their_own(&rt, alloc, &server) {
+        return ExitCode::from(status);
+    }
     let opened = match open_server_journals(&rt, alloc, &server) {
         Ok(opened) => opened,
         Err(status) => return ExitCode::from(status),
