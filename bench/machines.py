@@ -50,7 +50,7 @@ def library():
 def is_unproved():
     """Whether the library is one that ./try compiled, with tests at run time."""
     with open(library(), "rb") as file:
-        return b"unproved_main" in file.read()
+        return b"telgovan_unproved" in file.read()
 
 
 def written(room, name, text):

@@ -25,6 +25,8 @@ HEADER = TOP / "include/telgovan.h"
 LIST = TOP / "release/abi.txt"
 LAYOUTS = TOP / "release/abi.xml"
 SONAME = "libtelgovan.so.0"
+# A text that tests/unproved/compile puts into an unproved library, and that no proved one has.
+UNPROVED = "telgovan_unproved"
 HEAD = """\
 # What C sees of libtelgovan.so.0, as release/abi.py finds it in include/telgovan.h. A line that is
 # changed or taken away needs another number behind `.so` (docs/versions.md). New lines don't.

@@ -5,13 +5,14 @@ from collections import namedtuple
 from pathlib import Path
 
 # Types of sections, of entries of the dynamic section, and a symbol of no section.
+PROGBITS = 1
 DYNAMIC, DYNSYM, VERNEED = 6, 11, 0x6FFFFFFE
 NEEDED, SONAME = 1, 14
 UNDEFINED, GLOBAL, WEAK = 0, 1, 2
 # glibc's own shared objects: the library, and the loader that comes with it.
 GLIBC = {"libc.so.6", "ld-linux-x86-64.so.2"}
 
-Section = namedtuple("Section", "kind offset size link")
+Section = namedtuple("Section", "kind offset size link address")
 
 
 class Elf:
@@ -26,7 +27,7 @@ class Elf:
         self.sections = []
         for place in range(start, start + size * count, size):
             row = struct.unpack_from("<IIQQQQI", self.bytes, place)
-            self.sections.append(Section(row[1], row[4], row[5], row[6]))
+            self.sections.append(Section(row[1], row[4], row[5], row[6], row[3]))
 
     def of_kind(self, kind):
         return [section for section in self.sections if section.kind == kind]
@@ -53,15 +54,28 @@ class Elf:
     def soname(self):
         return (self.dynamic(SONAME) or [None])[0]
 
-    def exports(self):
-        """The names that it defines for others, in order."""
-        names = set()
+    def symbols(self):
+        """The names that it defines for others, each with its address."""
+        found = {}
         for section in self.of_kind(DYNSYM):
             for place in range(section.offset, section.offset + section.size, 24):
-                name, info, _, of = struct.unpack_from("<IBBH", self.bytes, place)
+                name, info, _, of, address = struct.unpack_from("<IBBHQ", self.bytes, place)
                 if of != UNDEFINED and info >> 4 in (GLOBAL, WEAK):
-                    names.add(self.text(section.link, name))
-        return sorted(names)
+                    found[self.text(section.link, name)] = address
+        return found
+
+    def exports(self):
+        """The names that it defines for others, in order."""
+        return sorted(self.symbols())
+
+    def text_of(self, name):
+        """The text of C's at the symbol, or None where it doesn't define that."""
+        address = self.symbols().get(name)
+        for section in self.of_kind(PROGBITS):
+            if address is not None and section.address <= address < section.address + section.size:
+                start = section.offset + address - section.address
+                return self.bytes[start : self.bytes.index(0, start)].decode()
+        return None
 
     def versions(self):
         """The versions of symbols that it needs, as (file, version)."""

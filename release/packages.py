@@ -18,8 +18,8 @@ import abi
 
 # tree: the files of the commit. built: the folder of the programs and the libraries. provenance: a
 # text. date: of the commit, in seconds. libc: the oldest glibc that will do, as (2, 34). level: how
-# hard gzip and xz try, 1 to 9.
-Release = namedtuple("Release", "version tree built provenance date libc level")
+# hard gzip and xz try, 1 to 9. words: those by which unproved files tell that they are, else None.
+Release = namedtuple("Release", "version tree built provenance date libc level words")
 
 PLATFORM = "x86_64-linux-gnu"
 PROGRAMS = ("bpfjobs", "bpfrun")
@@ -31,6 +31,10 @@ DEBIAN_PARTS = {
     "telgovan": r"usr/bin/|lib/systemd/|usr/lib/[^/]+/libtelgovan\.so\.0$|usr/share/(bash-|man/man1/|telgovan/|doc/telgovan/)",
     "libtelgovan-dev": r"usr/include/|usr/lib/[^/]+/(libtelgovan\.(a|so)$|pkgconfig/)|usr/share/(man/man3/|doc/libtelgovan-dev/)",
 }
+
+
+# Each version of unproved files sorts ahead of the proved one, by Debian's order, Python's and Rust's.
+UNPROVED = {"debian": "~unproved", "wheel": ".dev0+unproved", "crate": "-unproved"}
 
 
 class Failed(Exception):
@@ -67,6 +71,10 @@ def put(source, place, mode=0o644):
     else:
         shutil.copyfile(source, place)
     place.chmod(mode)
+
+
+def version_of(release, kind):
+    return release.version + (UNPROVED[kind] if release.words else "")
 
 
 # ---- archives
@@ -124,7 +132,7 @@ def set_prefix(room, old, new, libraries):
 
 
 def write_tarball(release, room, out):
-    top = f"telgovan-{release.version}-{PLATFORM}"
+    top = f"telgovan-{version_of(release, 'debian')}-{PLATFORM}"
     stage(release, room / top)
     # it works where it is unpacked
     set_prefix(room / top, "", "${pcfiledir}/../..", "lib")
@@ -170,11 +178,12 @@ def stage_debian(release, room):
     when = time.strftime("%a, %d %b %Y %H:%M:%S +0000", time.gmtime(release.date))
     source = (release.tree / "release/debian/control").read_text(encoding="utf-8")
     maintainer = re.search(r"^Maintainer: (.*)$", source, re.MULTILINE).group(1)
+    version = version_of(release, "debian")
     for name in DEBIAN_PARTS:
         pages = usr / "share/doc" / name
         put(license_text, pages / "copyright")
-        put(f"telgovan ({release.version}) unstable; urgency=medium\n\n"
-            f"  * {release.version}: see CHANGELOG.md in telgovan's pages.\n\n"
+        put(f"telgovan ({version}) unstable; urgency=medium\n\n"
+            f"  * {version}: see CHANGELOG.md in telgovan's pages.\n\n"
             f" -- {maintainer}  {when}\n", pages / "changelog")
         packed(pages / "changelog")
 
@@ -185,7 +194,7 @@ def control_of(release, name, room):
     (found,) = (part for part in text.split("\n\n") if part.startswith(f"Package: {name}\n"))
     size = sum((room / path).lstat().st_size + 1023 >> 10 for path in paths_below(room))
     libc = ".".join(map(str, release.libc))
-    words = {"@VERSION@": release.version, "@SIZE@": str(size), "@LIBC@": libc}
+    words = {"@VERSION@": version_of(release, "debian"), "@SIZE@": str(size), "@LIBC@": libc}
     for word, other in words.items():
         found = found.replace(word, other)
     return found.rstrip("\n") + "\n"
@@ -195,13 +204,14 @@ def symbols_of(release):
     """The lines of Debian's list of symbols: each is there from the version that its list names on."""
     header = (release.tree / "include/telgovan.h").read_text(encoding="utf-8")
     yield "libtelgovan.so.0 telgovan #MINVER#\n"
-    yield from (f" {name}@Base {release.version}\n" for name in abi.functions(abi.declared(header)))
+    names = abi.functions(abi.declared(header)) + [abi.UNPROVED] * bool(release.words)
+    yield from (f" {name}@Base {version_of(release, 'debian')}\n" for name in sorted(names))
 
 
 def write_debian(release, room, out):
     whole = room / "whole"
     stage_debian(release, whole)
-    paths = paths_below(whole)
+    paths, version = paths_below(whole), version_of(release, "debian")
     for name, pattern in DEBIAN_PARTS.items():
         part = room / name
         for path in (path for path in paths if re.match(pattern, path)):
@@ -211,7 +221,7 @@ def write_debian(release, room, out):
         scripts = release.tree / "release/debian" / name
         told = {"control": control_of(release, name, part), "md5sums": "".join(sums)}
         if name == "telgovan":
-            told["shlibs"] = f"libtelgovan 0 telgovan (>= {release.version})\n"
+            told["shlibs"] = f"libtelgovan 0 telgovan (>= {version})\n"
             told["symbols"] = "".join(symbols_of(release))
         for file, text in told.items():
             put(text, part / "DEBIAN" / file)
@@ -222,7 +232,7 @@ def write_debian(release, room, out):
             for entry in [at, *(os.path.join(at, it) for it in folders + files)]:
                 os.utime(entry, (release.date, release.date), follow_symlinks=False)
         words = ["dpkg-deb", "--root-owner-group", "-Zxz", f"-z{min(release.level, 6)}", "--threads-max=1", "--build", part]
-        call([*words, out / f"{name}_{release.version}_amd64.deb"])
+        call([*words, out / f"{name}_{version}_amd64.deb"])
     left = paths_below(whole)
     if left:
         raise Failed(f"no package has {left[0]}")
@@ -247,16 +257,22 @@ def write_wheel(release, out):
     more["licenses/PROVENANCE"] = release.provenance.encode()
     tag = "py3-none-manylinux_{}_{}_x86_64".format(*release.libc)
     date = max(time.gmtime(release.date)[:6], (1980, 1, 1, 0, 0, 0))
-    wheel_of.write_wheel(out, tag, more, tuple(date))
+    version = version_of(release, "wheel")
+    wheel_of.write_wheel(out, tag, more, tuple(date), version, release.words)
 
 
 def write_crate(release, room, out):
     """Writes the Rust crate's sources, with the static library that they link."""
-    top = f"telgovan-rust-{release.version}"
+    version = version_of(release, "crate")
+    top = f"telgovan-rust-{version}"
     for path in paths_below(release.tree / "bindings/rust"):
         # the tests read the repository's examples
         if not path.startswith("tests/"):
             put(release.tree / "bindings/rust" / path, room / path)
+    told, manifest = 'version = "{}"\n', (room / "Cargo.toml").read_text(encoding="utf-8")
+    if manifest.count(told.format(release.version)) != 1:
+        raise Failed(f"Cargo.toml doesn't tell the version {release.version} once")
+    put(manifest.replace(told.format(release.version), told.format(version)), room / "Cargo.toml")
     for name in LICENSES:
         put(release.tree / name, room / name)
     put(release.built / "libtelgovan.a", room / "lib/libtelgovan.a")

@@ -13,9 +13,16 @@ TOP = os.path.dirname(os.path.dirname(os.path.abspath(__file__)))
 BPFJOBS = os.environ.get("BPFJOBS", os.path.join(TOP, "crates/bpfjobs/out/bpfjobs"))
 BPFRUN = os.environ.get("BPFRUN", os.path.join(TOP, "crates/bpfrun/out/bpfrun"))
 PATIENCE = 60
-# Whether the programs have tests at run time, so that they take ten times as long (./try test).
+# Whether the programs take so long that the longest jobs have to be shorter.
 IS_SLOW = "TELGOVAN_SLOW" in os.environ
+# Whether they are unproved, and say so (./try test).
+IS_UNPROVED = "TELGOVAN_UNPROVED" in os.environ
+WORDS = "unproved, with run-time tests"
 SHORT = 10_000
+
+# The version that the programs tell.
+with open(os.path.join(TOP, "VERSION"), encoding="utf-8") as _file:
+    VERSION = _file.read().strip() + (f" ({WORDS})" if IS_UNPROVED else "")
 
 sys.path.insert(0, os.path.join(TOP, "bindings/python"))
 import telgovan  # noqa: E402  (the module stands in the folder that was just added)

@@ -6,9 +6,8 @@ import struct
 import time
 import unittest
 
-from programs import PATIENCE, is_read, submit_text
+from programs import PATIENCE, VERSION, is_read, submit_text
 from test_clients import long_job
-from test_log import VERSION
 from test_tenants import NO_REQUEST, NO_TENANT, Room, account, grant, submit
 
 ASKED = {"op": "server"}

@@ -10,7 +10,7 @@ import tempfile
 import time
 import unittest
 
-from programs import BPFJOBS, PATIENCE, Server, frame, frames, is_read, submit_text
+from programs import BPFJOBS, PATIENCE, VERSION, Server, frame, frames, is_read, submit_text
 from rows import code_of
 from test_clients import Client, long_job, result_of
 from test_local import Client as LocalClient
@@ -33,9 +33,6 @@ SOCKETS = {"port", "socket", "grants", "tenant"}
 TENANTS = {"alice", "bob"}
 ENDS = {"input", "stopped", "frame too large", "timeout", "cut", "memory"}
 PIPE_ROOM = 4096
-
-with open(os.path.join(os.path.dirname(os.path.abspath(__file__)), "../VERSION"), encoding="utf-8") as file:
-    VERSION = file.read().strip()
 
 
 def lines_of(text):

@@ -1,5 +1,5 @@
-"""The file VERSION says the version, and what else tells one agrees. What C sees of the library is what
-release/abi.txt lists."""
+"""The file VERSION says the version, and what else tells one agrees. Unproved programs, and what is made
+of them, say that they are. What C sees of the library is what release/abi.txt lists."""
 
 import ctypes
 import os
@@ -8,14 +8,17 @@ import subprocess
 import sys
 import tempfile
 import unittest
+import zipfile
 from pathlib import Path
 
 import programs
-from programs import TOP
+from programs import IS_UNPROVED, TOP, WORDS
 
-sys.path.insert(0, os.path.join(TOP, "release"))
-import abi  # noqa: E402  (the scripts stand in the folder that was just added)
+sys.path[:0] = [os.path.join(TOP, "release"), os.path.join(TOP, "bindings/python")]
+import abi  # noqa: E402  (the scripts stand in the folders that were just added)
 import elf  # noqa: E402
+import packages  # noqa: E402
+import wheel_of  # noqa: E402
 
 
 def text_of(path):
@@ -24,6 +27,7 @@ def text_of(path):
 
 
 VERSION = text_of("VERSION").strip()
+LIBRARY = os.path.join(os.environ.get("TELGOVAN_LIB", os.path.join(TOP, "bindings/out")), "libtelgovan.so")
 
 # a file, and what stands before and behind a version there
 TOLD = (
@@ -35,7 +39,6 @@ TOLD = (
     ("crates/server_log/src/log_line.rt", r'\\"version\\":\\"(.*?)\\"'),
     ("crates/sessions/src/server_reply.rt", r'\\"version\\":\\"(.*?)\\"'),
     ("docs/try.html", r'^const VERSION = "(.*)";$'),
-    ("tests/data/commands.txt", r"^(?:--version|-V) .* bpfjobs (\S+)$"),
 )
 # a file whose version is put in where it is installed or built, and the word that stands for it
 FILLED = (
@@ -69,14 +72,66 @@ class Version(unittest.TestCase):
         first, second, third = map(int, VERSION.split("."))
         number = first << 16 | second << 8 | third
         self.assertIn(f"ensures {{ result ≡ {number} }}", text_of("crates/telgovan_c/src/version.rt"))
-        folder = os.environ.get("TELGOVAN_LIB", os.path.join(TOP, "bindings/out"))
-        library = ctypes.CDLL(os.path.join(folder, "libtelgovan.so"))
-        self.assertEqual(library.telgovan_version(), number)
+        self.assertEqual(ctypes.CDLL(LIBRARY).telgovan_version(), number)
 
     def test_the_programs(self):
+        told = f"{VERSION} ({WORDS})" if IS_UNPROVED else VERSION
         for name, program in (("bpfjobs", programs.BPFJOBS), ("bpfrun", programs.BPFRUN)):
-            with self.subTest(name):
-                self.assertEqual(programs.told(program, ["--version"]), (0, f"{name} {VERSION}\n"))
+            for word in ("--version", "-V"):
+                with self.subTest(name, word=word):
+                    self.assertEqual(programs.told(program, [word]), (0, f"{name} {told}\n"))
+
+
+class Unproved(unittest.TestCase):
+    """An unproved library, and what is made of it, say that it is; a proved one says nothing of it."""
+
+    def test_the_library(self):
+        """As a host in C asks, and as release/build does."""
+        library = ctypes.CDLL(LIBRARY)
+        self.assertEqual(hasattr(library, abi.UNPROVED), IS_UNPROVED)
+        self.assertEqual(elf.Elf(LIBRARY).text_of(abi.UNPROVED), WORDS if IS_UNPROVED else None)
+        if IS_UNPROVED:
+            text = (ctypes.c_char * 100).in_dll(library, abi.UNPROVED)
+            self.assertEqual(ctypes.string_at(text).decode(), WORDS)
+
+    def test_versions_of_packages(self):
+        """Each sorts ahead of the proved version: dpkg and pip take that for the newer one."""
+        wanted = {"debian": f"{VERSION}~unproved", "wheel": f"{VERSION}.dev0+unproved", "crate": f"{VERSION}-unproved"}
+        for words in (None, WORDS):
+            release = packages.Release(VERSION, None, None, "", 0, (2, 34), 1, words)
+            for kind, version in wanted.items():
+                with self.subTest(kind, words=words):
+                    self.assertEqual(packages.version_of(release, kind), version if words else VERSION)
+
+    def test_the_wheel(self):
+        for version, words in ((VERSION, None), (f"{VERSION}.dev0+unproved", WORDS)):
+            with self.subTest(version), tempfile.TemporaryDirectory() as room:
+                name = wheel_of.write_wheel(room, wheel_of.TAG, {}, (1980, 1, 1, 0, 0, 0), version, words)
+                self.assertEqual(name, f"telgovan-{version}-py3-none-any.whl")
+                with zipfile.ZipFile(os.path.join(room, name)) as archive:
+                    told = archive.read(f"telgovan-{version}.dist-info/METADATA").decode()
+                self.assertIn(f"\nVersion: {version}\n", told)
+                summary = re.search(r"^Summary: (.*)$", told, re.MULTILINE).group(1)
+                self.assertEqual(summary, wheel_of.stated("description") + (f" ({words})" if words else ""))
+
+    def install(self, built, room):
+        words = {**os.environ, "TELGOVAN_LIB": built, "DESTDIR": room}
+        script = os.path.join(TOP, "bindings/install")
+        return subprocess.run([script, "/usr"], env=words, capture_output=True, text=True, check=False)
+
+    def test_the_installed_library(self):
+        """The file for pkg-config."""
+        with tempfile.TemporaryDirectory() as room:
+            self.assertEqual(self.install(os.path.dirname(LIBRARY), room).returncode, 0)
+            told = Path(room, "usr/lib/pkgconfig/telgovan.pc").read_text(encoding="utf-8")
+        self.assertIn(f"\nVersion: {VERSION}\n", told)
+        self.assertEqual(re.search(r"^Description: .*?(\(.*\))?$", told, re.MULTILINE).group(1), f"({WORDS})" if IS_UNPROVED else None)
+
+    def test_no_library_to_install(self):
+        with tempfile.TemporaryDirectory() as room:
+            ran = self.install(room, room)
+            self.assertEqual((ran.returncode, os.listdir(room)), (1, []))
+        self.assertIn("./try kept library", ran.stderr)
 
 
 class Abi(unittest.TestCase):
@@ -84,9 +139,8 @@ class Abi(unittest.TestCase):
         self.assertEqual(abi.declared(text_of("include/telgovan.h")), abi.listed())
 
     def test_the_shared_object_exports_what_is_listed(self):
-        folder = os.environ.get("TELGOVAN_LIB", os.path.join(TOP, "bindings/out"))
-        library = elf.Elf(os.path.join(folder, "libtelgovan.so"))
-        self.assertEqual(library.exports(), abi.functions(abi.listed()))
+        library = elf.Elf(LIBRARY)
+        self.assertEqual(library.exports(), sorted(abi.functions(abi.listed()) + [abi.UNPROVED] * IS_UNPROVED))
         self.assertEqual(library.soname(), "libtelgovan.so.0")
         self.assertLessEqual(set(library.needed()), elf.GLIBC)
 

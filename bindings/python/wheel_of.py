@@ -24,14 +24,16 @@ def recorded(path, content):
     return f"{path},sha256={digest},{len(content)}\n"
 
 
-def write_wheel(folder, tag, more, date):
+def write_wheel(folder, tag, more, date, version=None, words=None):
     """Writes the wheel of this tag into the folder, and gives its name. `more` are further files, by
-    their paths; those of licenses/ belong to what is told of the wheel. The date is of six numbers."""
-    name, version = stated("name"), stated("version")
+    their paths; those of licenses/ belong to what is told of the wheel. The date is of six numbers.
+    Where the shared object is unproved, the version and the words tell it."""
+    name, version = stated("name"), version or stated("version")
+    summary = stated("description") + (f" ({words})" if words else "")
     told = f"{name}-{version}.dist-info"
     readme = (HERE / "README.md").read_text(encoding="utf-8")
     head = ["Metadata-Version: 2.1", f"Name: {name}", f"Version: {version}"]
-    head += [f"Summary: {stated('description')}", "License: MIT OR Apache-2.0"]
+    head += [f"Summary: {summary}", "License: MIT OR Apache-2.0"]
     head += [f"Requires-Python: {stated('requires-python')}"]
     head += ["Description-Content-Type: text/markdown"]
     about = [("Wheel-Version", "1.0"), ("Generator", name)]
