@@ -9,10 +9,11 @@ import sys
 import threading
 import time
 
+from patience import PATIENCE
+
 TOP = os.path.dirname(os.path.dirname(os.path.abspath(__file__)))
 BPFJOBS = os.environ.get("BPFJOBS", os.path.join(TOP, "crates/bpfjobs/out/bpfjobs"))
 BPFRUN = os.environ.get("BPFRUN", os.path.join(TOP, "crates/bpfrun/out/bpfrun"))
-PATIENCE = 60
 # Whether the programs have tests at run time, so that they take ten times as long (./try test).
 IS_SLOW = "TELGOVAN_SLOW" in os.environ
 SHORT = 10_000
