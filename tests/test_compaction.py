@@ -261,7 +261,7 @@ class NotCompacted(Long):
         self.assertEqual(self.told(self.start()), told)
 
 
-@unittest.skipUnless(shutil.which("strace"), "there is no strace")
+@unittest.skipUnless(shutil.which("strace"), "needs Debian's strace")
 class Crashes(Long):
     """The start of a server whose journal is compacted, which ends or fails at each of its calls."""
 

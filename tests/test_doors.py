@@ -362,7 +362,7 @@ class Settings(unittest.TestCase):
             self.assertLess(int(data.rstrip("M")) - 8 * started, int(memory.rstrip("M")))
 
 
-@unittest.skipUnless(shutil.which("systemd-analyze"), "there is no systemd-analyze")
+@unittest.skipUnless(shutil.which("systemd-analyze"), "needs systemd-analyze, of Debian's systemd")
 class Units(unittest.TestCase):
     def test_systemd_reads_them(self):
         with tempfile.TemporaryDirectory() as room:

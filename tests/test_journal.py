@@ -462,7 +462,7 @@ class Failing(Room):
         self.assertEqual([line["code"] for line in closed], [84])
 
 
-@unittest.skipUnless(shutil.which("strace"), "there is no strace")
+@unittest.skipUnless(shutil.which("strace"), "needs Debian's strace")
 class Synced(Room):
     """Each reply is written behind the sync of the records that it rests on."""
 
@@ -530,7 +530,7 @@ class Synced(Room):
         self.assertIn(f"<{os.path.realpath(self.server.journal)}>", lines)
 
 
-@unittest.skipUnless(shutil.which("strace"), "there is no strace")
+@unittest.skipUnless(shutil.which("strace"), "needs Debian's strace")
 class FailingCalls(Room):
     """The n-th write or sync of the journal fails. All that was told is there again, and nothing was told behind it."""
 

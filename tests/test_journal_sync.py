@@ -197,7 +197,7 @@ class FailingAtIntervals(test_journal.Failing):
         self.assertGreater(self.told, 1000 // 22)
 
 
-@unittest.skipUnless(shutil.which("strace"), "there is no strace")
+@unittest.skipUnless(shutil.which("strace"), "needs Debian's strace")
 class Synced(AtIntervals):
     """No reply waits for a sync, and nothing is synced where nothing changed."""
 

@@ -469,7 +469,7 @@ class Damage(Room):
                 self.assertEqual(self.refused(), f"bpfjobs: {self.server.file('alice')}: {told}\n")
 
 
-@unittest.skipUnless(shutil.which("strace"), "there is no strace")
+@unittest.skipUnless(shutil.which("strace"), "needs Debian's strace")
 class Synced(Room):
     def test_a_key_that_another_connection_asks_for(self):
         """It is told once the record of its job is on the disk, as the first one is."""

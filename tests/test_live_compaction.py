@@ -414,7 +414,7 @@ class NotCompacted(Live):
         self.assertEqual(self.told(self.start(), jobs), told)
 
 
-@unittest.skipUnless(shutil.which("strace"), "there is no strace")
+@unittest.skipUnless(shutil.which("strace"), "needs Debian's strace")
 class Traced(Live):
     """A server whose calls strace tells, or has fail."""
 

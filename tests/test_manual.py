@@ -44,7 +44,7 @@ class Manual(unittest.TestCase):
             for command in commands:
                 self.assertIn(f".SS {command}\n", page)
 
-    @unittest.skipUnless(shutil.which("man"), "there is no man")
+    @unittest.skipUnless(shutil.which("man"), "needs man, of Debian's man-db")
     def test_the_pages_are_read_without_a_warning(self):
         for name in PROGRAMS:
             ran = subprocess.run(["man", "--warnings", "-l", str(FOLDER / f"{name}.1")], capture_output=True, text=True,

@@ -164,7 +164,7 @@ class Metrics(unittest.TestCase):
             self.assertEqual(gone["telgovan_up"], 0)
             self.assertEqual([name for name in gone if "server" in name], [])
 
-    @unittest.skipUnless(shutil.which("promtool"), "there is no promtool")
+    @unittest.skipUnless(shutil.which("promtool"), "needs promtool, of Debian's prometheus")
     def test_promtool(self):
         process, port = self.start()
         self.write(process, *LINES)

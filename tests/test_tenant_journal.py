@@ -396,7 +396,7 @@ class Failing(Room):
         self.assertEqual(self.connect("bob").ask(account("bob"))["granted"], 5)
 
 
-@unittest.skipUnless(shutil.which("strace"), "there is no strace")
+@unittest.skipUnless(shutil.which("strace"), "needs Debian's strace")
 class Synced(Room):
     """Each reply at a door is written behind the sync of its own desk's records, and waits for no other's."""
 

@@ -1,7 +1,7 @@
 """The page, in a browser: what it tells, its address, and what it says of random programs beside the library.
 
-It wants a Chromium or a Firefox (TELGOVAN_BROWSER), and the page that web/build makes, in TELGOVAN_PAGE. TELGOVAN_PICTURES names a folder
-for a picture of each state. `test_web_jobs` has the view of a job."""
+It wants a Chromium or a Firefox (TELGOVAN_BROWSER). The page is docs/try.html, or the one that TELGOVAN_PAGE
+names. TELGOVAN_PICTURES names a folder for a picture of each state. `test_web_jobs` has the view of a job."""
 
 import ctypes
 import json
@@ -14,18 +14,17 @@ from pathlib import Path
 import browsers
 from test_graphs import modelled
 
-PAGE = os.environ.get("TELGOVAN_PAGE", "")
 PICTURES = os.environ.get("TELGOVAN_PICTURES", "")
 PROGRAMS = int(os.environ.get("TELGOVAN_PROGRAMS", "2000"))
 BROWSER = browsers.chosen()
-IS_THERE = bool(PAGE) and bool(BROWSER)
 CTRL, SHIFT = 2, 8
 WIDE, NARROW = (1280, 900), (360, 740)
 
 TOP = Path(__file__).resolve().parent.parent
+PAGE = os.environ.get("TELGOVAN_PAGE") or TOP / "docs/try.html"
 
 
-@unittest.skipUnless(IS_THERE, "there is no page or no such browser")
+@unittest.skipUnless(BROWSER, "needs Debian's chromium or firefox-esr")
 class InBrowser(unittest.TestCase):
     @classmethod
     def setUpClass(cls):
