@@ -13,11 +13,13 @@ A line for each of these, or of those that are named:
     lost         the age of the oldest grant that a kill lost by `--journal-sync interval`
     compaction   the slowest reply while a journal is compacted again and again
     journal      the most bytes of a journal under load, beside twice its last snapshot
+    page         203 changes of the step that docs/try.html shows of a long run, in a browser
 
 `docs/measurements/requests.md` has such figures of an idle machine. `syncs` and `slow_disk` take
-strace. Status: 0.
+strace, and `page` a browser. Status: 0.
 """
 
+import json
 import os
 import re
 import resource
@@ -29,12 +31,14 @@ import time
 TOP = os.path.dirname(os.path.dirname(os.path.abspath(__file__)))
 sys.path.insert(0, os.path.join(TOP, "tests"))
 sys.dont_write_bytecode = True
-from compactions import CountedKeeper  # noqa: E402  (the module stands in the folder that was just added)
+import browsers  # noqa: E402  (the module stands in the folder that was just added)
+from compactions import CountedKeeper  # noqa: E402
 from journal_load import Load, after, good_jobs, keep_busy  # noqa: E402
 from journals import Keeper, book_of, kill_traced, read  # noqa: E402
 from programs import Server, assemble, frame, submit_text  # noqa: E402
 from test_clients import Client, Worker, files_of  # noqa: E402
 from test_cycles import long_programs, verdict  # noqa: E402
+from test_web import LONG_SOURCE, LONG_WAY, PAGE  # noqa: E402
 
 ACCOUNT = {"op": "account", "tenant": "t"}
 GRANT = {"op": "grant", "tenant": "t", "amount": 1}
@@ -191,7 +195,21 @@ def journal():
     return f"{max(sizes)} bytes, {2 * told[-1][2] if told else 0} are twice the last snapshot of {len(told)}"
 
 
-MEASURES = [descriptor, crowd, cycle, syncs, slow_disk, lost, compaction, journal]
+def page():
+    if not browsers.chosen():
+        return "needs Debian's chromium or firefox-esr"
+    tab = browsers.opened()
+    try:
+        tab.load(PAGE.resolve().as_uri())
+        tab.evaluate(f"show({json.dumps(LONG_SOURCE)}, {{}}); do_run()")
+        began = time.monotonic()
+        tab.evaluate(LONG_WAY)
+        return f"{time.monotonic() - began:.1f} s in {browsers.chosen()}"
+    finally:
+        tab.close()
+
+
+MEASURES = [descriptor, crowd, cycle, syncs, slow_disk, lost, compaction, journal, page]
 
 
 def main(names):
