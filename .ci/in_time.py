@@ -15,8 +15,8 @@ A line for each of these, or of those that are named:
     journal      the most bytes of a journal under load, beside twice its last snapshot
     page         203 changes of the step that docs/try.html shows of a long run, in a browser
 
-`docs/measurements/requests.md` has such figures of an idle machine. `syncs` and `slow_disk` take
-strace, and `page` a browser. Status: 0.
+`docs/measurements/requests.md` has such figures. `syncs` and `slow_disk` take strace, and `page` a
+browser. Status: 0.
 """
 
 import json

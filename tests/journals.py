@@ -239,8 +239,8 @@ def read(path):
 
 
 def kill_traced(process, is_delayed=False):
-    """Kills what strace traces, which would go on without it, and waits for both. Where strace delays
-    a call, it is killed as well."""
+    """Kills what strace traces, which would go on without it, and waits for both. Where strace
+    delays a call, it is killed as well."""
     with open(f"/proc/{process.pid}/task/{process.pid}/children", encoding="utf-8") as file:
         children = file.read().split()
     for child in children:

@@ -171,7 +171,7 @@ def within(seconds, begun):
 
 
 def by_timeouts(check):
-    """Has a test at work by a timeout of a second, and by longer ones, until the machine keeps up."""
+    """Has a test at work by timeouts of a second and more, until the machine keeps up."""
     for seconds in (1, 4, 16, 64, 256):
         with contextlib.suppress(TooLate):
             return check(seconds)

@@ -1,5 +1,5 @@
-"""The lowest slot on a cycle: of pseudo-random graphs, by the library and by a plain search for strongly
-connected components. `.ci/in_time.py` tells how long a refusal takes."""
+"""The lowest slot on a cycle: of pseudo-random graphs, by the library and by a plain search for
+strongly connected components. `.ci/in_time.py` tells how long a refusal takes."""
 
 import random
 import unittest
@@ -64,7 +64,7 @@ def verdict(code):
 
 
 def long_programs():
-    """A program of 4,096 slots that is accepted, and one with a cycle behind all slots that are on none."""
+    """A program of 4,096 slots that is accepted, and one whose last slots are a cycle."""
     line = "mov64 r0, 0\n" * 4094
     return assemble(line + "mov64 r0, 0\nexit"), assemble(line + "jeq r3, 0, -2\nexit")
 

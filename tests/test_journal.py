@@ -39,8 +39,8 @@ class Anew:
     """Beside a folder with journals: a test that is tried again in another one."""
 
     def beside_a_long_job(self, check, **more):
-        """Has a test at work beside a long job, whose request it is given with more in it, and beside
-        longer ones, as `test_clients.beside_a_long_job` does."""
+        """Has a test at work beside a long job, whose request it is given with more in it, and
+        beside longer ones, as `test_clients.beside_a_long_job` does."""
         def check_anew(programs, credit):
             self.server.end()
             self.room = tempfile.mkdtemp(dir=self.room)

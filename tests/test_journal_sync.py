@@ -1,5 +1,5 @@
-"""`bpfjobs serve --journal FILE --journal-sync interval`: replies wait for no sync, and journals are
-synced at intervals. `.ci/in_time.py` tells how long these are."""
+"""`bpfjobs serve --journal FILE --journal-sync interval`: replies wait for no sync, and journals
+are synced at intervals. `.ci/in_time.py` tells how long these are."""
 
 import contextlib
 import os

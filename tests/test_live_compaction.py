@@ -245,8 +245,8 @@ class Open(Live):
         self.assertEqual((account["open"], account["spent"], account["granted"]), (0, spent, CREDIT + 2 * credit))
 
     def test_little_to_save(self):
-        """A journal of jobs that all wait stays as it is. Once they are over, and it has doubled, it
-        is compacted."""
+        """A journal of jobs that all wait stays as it is. Once they are over, and it has doubled,
+        it is compacted."""
         self.beside_a_long_job(self.check_little)
 
     def check_little(self, long, credit):
@@ -290,7 +290,7 @@ class Busy(Live):
         self.assertEqual(load.wrong, [])
 
     def test_requests_go_on(self):
-        """Requests go on. Each is answered, in order. `.ci/in_time.py` tells how long one waited."""
+        """Each is answered, in order. `.ci/in_time.py` tells how long one waited."""
         client, other = self.granted(), self.connect()
         is_over, count, wrong = threading.Event(), 0, []
 
