@@ -131,7 +131,7 @@ class Front(unittest.TestCase):
     def setUp(self):
         room = tempfile.TemporaryDirectory()
         self.addCleanup(room.cleanup)
-        self.room = room.name
+        self.room, self.process = room.name, None
         for tenant in TENANTS:
             self.serve(tenant)
         self.write_table(alice="alice", bob="bob", expired="alice", forged="alice")
@@ -166,6 +166,10 @@ class Front(unittest.TestCase):
         os.replace(path + ".new", path)
 
     def front(self, *more):
+        """Starts a front, in the place of one that runs."""
+        if self.process:
+            self.process.kill()
+            self.process.wait()
         files = {"--cert": "front.crt", "--key": "front.key", "--authority": "authority.crt"}
         words = [word for option, name in files.items() for word in (option, self.made.path(name))]
         words += ["--table", os.path.join(self.room, "table"), *map(str, more)]
