@@ -145,8 +145,7 @@ class Kills:
         try:
             for load in doors.loads:
                 load.pace = self.given.pace
-            if self.given.compacting:
-                doors.loads[0].ending = InCompactions(doors.server, seed)
+            doors.loads[0].ending = InCompactions(doors.server, seed) if self.given.compacting else after
             number, is_over = 0, False
             while not is_over and not doors.wrong():
                 number += 1

@@ -1,30 +1,22 @@
-"""Runs tests in several processes at once, a class of tests in each.
+"""Runs tests in several processes at once.
 
     python3 at_once.py PROCESSES [NAME..]     all tests of this folder, or those of these names
 
-What a class that fails prints is shown, and at the end how many tests ran and why others were
-skipped. Status: 0 where none failed.
+Each test has a process of its own, forked from this one, and so does each class whose tests share
+what the class sets up: these begin first. What fails is shown, and at the end how many tests ran,
+why others were skipped, and which took longest. Status: 0 where none failed.
 """
 
+import os
 import re
-import subprocess
 import sys
+import tempfile
 import time
 import unittest
 from collections import Counter
-from concurrent.futures import ThreadPoolExecutor, as_completed
 
-# The classes that take longest, which begin first.
-LONGEST = (
-    "test_clients.Bounds",
-    "test_log.Log",
-    "test_journal.Damage",
-    "test_journal.Kills",
-    "test_jobs.Many",
-    "test_asyncio_server.Served",
-    "test_jobs.Chance",
-    "test_clang.Anew",
-)
+# How many of the longest tests are told at the end.
+TOLD = 5
 
 
 def cases(suite):
@@ -36,46 +28,78 @@ def cases(suite):
             yield one
 
 
+def shares(case):
+    """Whether the tests of a case's class share what the class sets up."""
+    return type(case).setUpClass.__func__ is not unittest.TestCase.setUpClass.__func__
+
+
 def groups(names):
-    """The names of the tests by their classes, the longest first."""
+    """The tests by what runs in one process, those of a class that shares its set-up ahead."""
     loader = unittest.defaultTestLoader
     found = {}
     for case in cases(loader.loadTestsFromNames(names) if names else loader.discover(".")):
-        name = case.id().removeprefix("unittest.loader._FailedTest.")
-        found.setdefault(name.rpartition(".")[0] if name == case.id() else name, []).append(name)
-    order = {name: place for place, name in enumerate(LONGEST)}
-    return sorted(found.items(), key=lambda group: order.get(group[0], len(order)))
+        name = case.id()
+        found.setdefault(name.rpartition(".")[0] if shares(case) else name, []).append(case)
+    return sorted(found.items(), key=lambda group: not shares(group[1][0]))
 
 
-def run(names):
-    """What a process prints that runs these tests, whether all of them pass, and its seconds."""
-    began = time.monotonic()
-    words = [sys.executable, "-m", "unittest", "-v", *names]
-    how = {"stdin": subprocess.DEVNULL, "stdout": subprocess.PIPE, "stderr": subprocess.STDOUT}
-    ran = subprocess.run(words, text=True, errors="replace", check=False, **how)
-    return ran.stdout, ran.returncode == 0, time.monotonic() - began
+def run(tests, told):
+    """Runs tests in this process, which ends with it."""
+    os.dup2(os.open(os.devnull, os.O_RDONLY), 0)
+    for end in (1, 2):
+        os.dup2(told.fileno(), end)
+    done = unittest.TextTestRunner(stream=sys.stderr, verbosity=2).run(unittest.TestSuite(tests))
+    sys.stdout.flush()
+    sys.stderr.flush()
+    os._exit(not done.wasSuccessful())
+
+
+class Running:
+    """The processes that run, and what came of those that have ended."""
+
+    def __init__(self):
+        self.processes, self.failed, self.skipped, self.times = {}, [], Counter(), []
+
+    def start(self, name, tests):
+        told = tempfile.TemporaryFile()
+        sys.stdout.flush()
+        process = os.fork()
+        if not process:
+            run(tests, told)
+        self.processes[process] = name, told, time.monotonic()
+
+    def wait(self):
+        """Waits for the end of one, and tells it."""
+        process, status, used = os.wait4(-1, 0)
+        name, told, began = self.processes.pop(process)
+        with told:
+            told.seek(0)
+            text = told.read().decode(errors="replace")
+        seconds, processor = time.monotonic() - began, used.ru_utime + used.ru_stime
+        self.times.append((seconds, processor, name))
+        self.skipped.update(re.findall(r"skipped ['\"](.*)['\"]$", text, re.MULTILINE))
+        if status:
+            self.failed.append(name)
+            print(f"{text}{name}: fails in {seconds:.1f} seconds", flush=True)
 
 
 def main(processes, names):
-    began = time.monotonic()
-    count, failed, skipped = 0, [], Counter()
-    with ThreadPoolExecutor(processes) as pool:
-        running = {pool.submit(run, tests): (name, tests) for name, tests in groups(names)}
-        for done in as_completed(running):
-            name, tests = running[done]
-            told, passed, seconds = done.result()
-            count += len(tests)
-            print(f"{name}: {'passes' if passed else 'fails'} in {seconds:.1f} seconds", flush=True)
-            skipped.update(re.findall(r"skipped ['\"](.*)['\"]$", told, re.MULTILINE))
-            if not passed:
-                failed.append(name)
-                print(told, end="", flush=True)
-    for why, times in skipped.items():
+    began, running, count = time.monotonic(), Running(), 0
+    for name, tests in groups(names):
+        if len(running.processes) == processes:
+            running.wait()
+        running.start(name, tests)
+        count += len(tests)
+    while running.processes:
+        running.wait()
+    for seconds, processor, name in sorted(running.times, reverse=True)[:TOLD]:
+        print(f"tests: {name} took {seconds:.1f} seconds, {processor:.1f} of a processor")
+    for why, times in running.skipped.items():
         print(f"tests: {times} skipped: {why}")
-    ran, seconds = count - sum(skipped.values()), time.monotonic() - began
+    ran, seconds = count - sum(running.skipped.values()), time.monotonic() - began
     print(f"tests: {ran} of {count} ran in {seconds:.0f} seconds")
-    if failed or not count:
-        sys.exit(f"tests: failures in {', '.join(sorted(failed)) or 'no test'}")
+    if running.failed or not count:
+        sys.exit(f"tests: failures in {', '.join(sorted(running.failed)) or 'no test'}")
 
 
 if __name__ == "__main__":

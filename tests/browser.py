@@ -9,8 +9,9 @@ import subprocess
 import tempfile
 import time
 
+from patience import PATIENCE
+
 NAMES = ("chromium", "chromium-browser", "google-chrome", "google-chrome-stable")
-PATIENCE = 60
 
 
 def program():

@@ -9,7 +9,8 @@ import subprocess
 import tempfile
 import time
 
-from browser import PATIENCE, Failed
+from browser import Failed
+from patience import PATIENCE
 
 NAMES = ("firefox", "firefox-esr")
 # What a profile begins with: a port of the browser's choice, and no page of greetings.

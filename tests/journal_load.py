@@ -8,6 +8,7 @@ import time
 
 from journal_following import Followed
 from journals import Keeper
+from patience import PATIENCE
 from trees import Planter, Tree, comparable
 
 # How many results are asked for at once.
@@ -207,8 +208,18 @@ def after(seconds):
     return lambda: time.monotonic() >= until
 
 
+def after_replies(loads):
+    """Makes of a number a call that tells whether each load was told as many replies more."""
+    def ending(count):
+        wanted = [load.told + count for load in loads]
+        return lambda: all(load.told >= told for load, told in zip(loads, wanted))
+
+    return ending
+
+
 def keep_busy(loads, is_over, kill):
     """Has the tenants of these loads at work until something is over, and kills their server."""
+    is_late = after(PATIENCE)
     for load in loads:
         load.floor = max(load.numbers, default=0)
         load.followed.is_running = True
@@ -219,6 +230,9 @@ def keep_busy(loads, is_over, kill):
         for load in loads:
             load.followed.look()
         time.sleep(0.002)
+        if is_late():
+            loads[0].wrong.append("its tenants waited in vain for the end of a round")
+            break
     kill()
     for load in loads:
         load.followed.is_running = False
@@ -242,8 +256,8 @@ class Load:
         self.found, self.torn = 0, 0
         # how many changes of the desk a client asks for in a second at most, or 0, and how many old jobs a look takes
         self.pace, self.sampled = 0, SAMPLED
-        # makes of a number of seconds a call that tells whether a round is over
-        self.ending = after
+        # makes of a number a call that tells whether a round is over
+        self.ending = after_replies([self])
         self.follow_file(self.server.journal)
 
     def follow_file(self, path):
@@ -277,7 +291,8 @@ class Load:
         self.followed.close()
 
     def round(self, longest, everything=True):
-        """Starts the server, looks for what was told, has the tenants at work, and kills it."""
+        """Starts the server, looks for what was told, has the tenants at work, and kills it: behind
+        a random number of replies up to the longest, unless `ending` takes it for another one."""
         self.server.start()
         if self.random.random() < 0.15:
             # while it reads its journal, or its jobs begin
@@ -429,6 +444,7 @@ class DoorLoads:
         self.loads = [self.load(door, seed + place, good, clients[door], keep) for place, door in enumerate(clients)]
         for load in self.loads:
             load.sampled = SAMPLED // len(self.loads)
+        self.loads[0].ending = after_replies(self.loads)
         self.server.kill()
 
     def load(self, door, seed, good, clients, keep):

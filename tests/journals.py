@@ -238,12 +238,15 @@ def read(path):
         return file.read()
 
 
-def kill_traced(process):
-    """Kills what strace traces, which would go on without it, and waits for both."""
+def kill_traced(process, is_delayed=False):
+    """Kills what strace traces, which would go on without it, and waits for both. Where strace
+    delays a call, it is killed as well."""
     with open(f"/proc/{process.pid}/task/{process.pid}/children", encoding="utf-8") as file:
         children = file.read().split()
     for child in children:
         os.kill(int(child), signal.SIGKILL)
+    if is_delayed:
+        process.kill()
     process.wait(PATIENCE)
 
 

@@ -15,6 +15,7 @@ import unittest
 from pathlib import Path
 
 import programs
+from patience import PATIENCE
 from programs import assemble, frame
 
 TOP = Path(programs.TOP)
@@ -58,7 +59,8 @@ class Client:
         self.port, self.tls = port, tls
 
     async def __aenter__(self):
-        self.reader, self.writer = await asyncio.open_connection("127.0.0.1", self.port, ssl=self.tls)
+        how = {"ssl": self.tls, "ssl_handshake_timeout": PATIENCE} if self.tls else {}
+        self.reader, self.writer = await asyncio.open_connection("127.0.0.1", self.port, **how)
         return self
 
     async def __aexit__(self, *_):
@@ -81,21 +83,33 @@ def submit(tenant):
 
 
 async def result(client, job):
+    """The result of a job, which is asked for again less and less often."""
+    pause = 0.05
     while True:
         told = await client.ask(op="result", job=job)
         if told.get("code") != 77:
             return told
-        await asyncio.sleep(0.05)
+        await asyncio.sleep(pause)
+        pause = min(2 * pause, 1)
 
 
-async def one_client(port, tenant, met, all_met, tls=None):
+class Meeting:
+    """Where clients wait until all of them are there."""
+
+    def __init__(self, count):
+        self.left, self.is_complete = count, asyncio.Event()
+
+    async def join(self):
+        self.left -= 1
+        if not self.left:
+            self.is_complete.set()
+        await self.is_complete.wait()
+
+
+async def one_client(port, tenant, meeting, tls=None):
     """A client that waits until all of them are there, and then has a job run."""
     async with Client(port, tls) as client:
-        met.append(tenant)
-        if len(met) == all_met:
-            met.clear()
-        while met:
-            await asyncio.sleep(0.01)
+        await meeting.join()
         await client.ask(op="grant", tenant=tenant, amount=GRANT)
         job = (await client.ask(**submit(tenant)))["job"]
         told = await result(client, job)
@@ -106,9 +120,9 @@ async def one_client(port, tenant, met, all_met, tls=None):
 class Served(unittest.TestCase):
     def run_clients(self, port, count, tls=None):
         async def together():
-            met = []
-            clients = (one_client(port, f"t{n}", met, count, tls) for n in range(count))
-            return await asyncio.wait_for(asyncio.gather(*clients), programs.PATIENCE)
+            meeting = Meeting(count)
+            clients = (one_client(port, f"t{n}", meeting, tls) for n in range(count))
+            return await asyncio.wait_for(asyncio.gather(*clients), PATIENCE)
 
         return asyncio.run(together())
 
@@ -120,17 +134,25 @@ class Served(unittest.TestCase):
 
     def test_many_clients_at_once(self):
         count = most_clients()
-        with Server("--workers", "4", "--idle", str(programs.PATIENCE)) as server:
+        with Server("--workers", "4", "--idle", str(PATIENCE)) as server:
             self.check_clients(self.run_clients(server.port, count), count)
 
     def test_a_client_that_says_nothing_is_let_go_of(self):
         async def silent(port):
             async with Client(port) as client:
-                return await asyncio.wait_for(client.reader.read(), 10)
+                return await asyncio.wait_for(client.reader.read(), PATIENCE)
+
+        async def asks(port):
+            # it may be let go of as well, where its request comes late
+            while True:
+                with contextlib.suppress(ConnectionError, asyncio.IncompleteReadError):
+                    async with Client(port) as client:
+                        return await client.ask(op="account", tenant="t")
 
         with Server("--idle", "0.3") as server:
             self.assertEqual(asyncio.run(silent(server.port)), b"")
-            self.check_clients(self.run_clients(server.port, 2), 2)
+            told = asyncio.run(asyncio.wait_for(asks(server.port), PATIENCE))
+            self.assertEqual(told, {"code": 74, "ok": False})
 
     def test_a_length_over_the_limit_is_the_last(self):
         async def rude(port):
@@ -142,7 +164,7 @@ class Served(unittest.TestCase):
             first, second, rest = asyncio.run(rude(server.port))
             self.assertEqual((first["code"], second["code"], rest), (73, 71, b""))
 
-    @unittest.skipUnless(shutil.which("openssl"), "there is no openssl")
+    @unittest.skipUnless(shutil.which("openssl"), "needs Debian's openssl")
     def test_over_tls(self):
         with tempfile.TemporaryDirectory() as room:
             key, cert = os.path.join(room, "key"), os.path.join(room, "cert")

@@ -117,7 +117,7 @@ class Bytes(unittest.TestCase):
                 with self.assertRaises(telgovan.Error):
                     telgovan.Program(row.need - 1, row.code)
 
-    @unittest.skipUnless(shutil.which("cc"), "there is no C compiler")
+    @unittest.skipUnless(shutil.which("cc"), "needs Debian's gcc or clang")
     def test_beside_the_functions_of_this_machine(self):
         with tempfile.TemporaryDirectory() as room:
             for row in FILTERS.values():
@@ -137,7 +137,7 @@ class Bytes(unittest.TestCase):
                 self.assertEqual(ran(row.need, row.code, memory, argument), wanted)
 
 
-@unittest.skipUnless(FOUND, "there is no clang for BPF, or no llvm-objcopy")
+@unittest.skipUnless(FOUND, "needs Debian's clang and llvm")
 class Anew(unittest.TestCase):
     def test_the_bytes_are_made_anew(self):
         for row in FILTERS.values():

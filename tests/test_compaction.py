@@ -6,13 +6,15 @@ import re
 import shutil
 import stat
 import subprocess
-import time
 import unittest
 
 from journal_load import Load, good_jobs
 from journals import book_of, payloads_of, read
-from programs import BPFJOBS, IS_SLOW, PATIENCE, assemble, submit_text
-from test_journal import ACCOUNT, Room, grant, open_job, submit
+from patience import PATIENCE, wait_for
+from programs import BPFJOBS, IS_SLOW, assemble
+from test_clients import is_open
+from test_journal import ACCOUNT, Room, grant, submit
+from trees import comparable
 
 KEPT = 2
 COMPACTED = re.compile(r"bpfjobs: (.+): compacted from (\d+) to (\d+) bytes\n")
@@ -108,30 +110,32 @@ class Compacted(Long):
 
     def test_open_jobs(self):
         """A job that is open stands in the snapshot as it was taken, and comes to what it would have come to."""
-        programs, credit = open_job()
-        long = json.loads(submit_text(programs, credit, b"\1\2\3"))
-        self.fill()
-        client = self.start("--open-jobs", 2)
-        self.assertTrue(client.ask(grant(min(credit, 2**31 - 1)))["ok"])
-        self.assertEqual(client.ask(long), {"job": self.JOBS + 1, "ok": True})
-        self.assertEqual(client.ask({**submit(), "tenant": "u"}), {"job": self.JOBS + 2, "ok": True})
-        client.over(self.JOBS + 2)
-        self.assertEqual(client.ask({"op": "result", "job": self.JOBS + 1}), {"code": 77, "ok": False})
-        account = client.ask(ACCOUNT)
-        self.server.kill()
-        before = book_of(self.data())
-        self.assertNotIn(self.JOBS + 1, before.ends)
-        client = self.start()
-        self.assertEqual(client.ask(ACCOUNT), account)
-        self.assertEqual(book_of(self.data()).jobs[self.JOBS], before.jobs[self.JOBS])
-        result = json.loads(client.over(self.JOBS + 1))
-        self.assertEqual(result["spent"] + result["returned"], credit)
-        other = self.keeper(folder=self.folder("other"))
-        other.start()
-        with other.connect() as fresh:
-            fresh.ask(grant(credit))
-            fresh.ask(long)
-            self.assertEqual(json.loads(fresh.over(1)), result)
+        def check(long, credit):
+            self.fill()
+            client = self.start("--open-jobs", 2)
+            self.assertTrue(client.ask(grant(credit))["ok"])
+            self.assertEqual(client.ask(long), {"job": self.JOBS + 1, "ok": True})
+            self.assertEqual(client.ask({**submit(), "tenant": "u"}), {"job": self.JOBS + 2, "ok": True})
+            client.over(self.JOBS + 2)
+            account = client.ask(ACCOUNT)
+            self.server.kill()
+            before = book_of(self.data())
+            client = self.start()
+            account_anew = client.ask(ACCOUNT)
+            if not is_open(client, self.JOBS + 1):
+                return False
+            self.assertNotIn(self.JOBS + 1, before.ends)
+            self.assertEqual(account_anew, account)
+            self.assertEqual(book_of(self.data()).jobs[self.JOBS], before.jobs[self.JOBS])
+            result = json.loads(client.over(self.JOBS + 1))
+            self.assertEqual(result["spent"] + result["returned"], credit)
+            with self.fresh() as other:
+                other.ask(grant(credit))
+                other.ask(long)
+                self.assertEqual(comparable(json.loads(other.over(1))), comparable(result))
+            return True
+
+        self.beside_a_long_job(check, buffer="010203")
 
     def folder(self, name):
         path = os.path.join(self.room, name)
@@ -171,10 +175,7 @@ class Compacted(Long):
             for number, other in enumerate(others):
                 other.socket = os.path.join(self.room, f"other{number}")
                 other.start(stderr=subprocess.PIPE)
-            until = time.monotonic() + PATIENCE
-            while sum(other.process.poll() is None for other in others) > 1:
-                self.assertLess(time.monotonic(), until)
-                time.sleep(0.01)
+            wait_for(lambda: sum(other.process.poll() is None for other in others) <= 1, "the ends of all but one")
             (going,) = [other for other in others if other.process.poll() is None]
             for other in others:
                 if other is not going:
@@ -226,7 +227,7 @@ class Compacted(Long):
                 load = Load(folder, seed, good_jobs(assemble, seed), clients=clients, keep=keep)
                 self.addCleanup(load.end)
                 for _ in range(6 if IS_SLOW else 12):
-                    load.round(longest=0.25)
+                    load.round(longest=400)
                 load.audit_all()
                 self.assertEqual(load.wrong, [])
                 self.assertGreater(load.compactions, 0)
@@ -261,7 +262,7 @@ class NotCompacted(Long):
         self.assertEqual(self.told(self.start()), told)
 
 
-@unittest.skipUnless(shutil.which("strace"), "there is no strace")
+@unittest.skipUnless(shutil.which("strace"), "needs Debian's strace")
 class Crashes(Long):
     """The start of a server whose journal is compacted, which ends or fails at each of its calls."""
 

@@ -6,7 +6,8 @@ import struct
 import time
 import unittest
 
-from programs import PATIENCE, VERSION, is_read, submit_text
+from patience import wait_for
+from programs import VERSION, is_read, submit_text
 from test_clients import long_job
 from test_tenants import NO_REQUEST, NO_TENANT, Room, account, grant, submit
 
@@ -34,11 +35,11 @@ class Counts(Room):
 
     def until(self, client, wanted):
         """What is told, once this holds of it: a connection that was closed is counted a moment later."""
-        until = time.monotonic() + PATIENCE
-        while not wanted(told := self.asked(client)):
-            self.assertLess(time.monotonic(), until, told)
-            time.sleep(0.01)
-        return told
+        def found():
+            told = self.asked(client)
+            return told if wanted(told) else None
+
+        return wait_for(found, "a count")
 
     def check(self, process, door, tenants):
         """Known traffic by one door, and what is told of it."""
@@ -74,6 +75,11 @@ class Counts(Room):
     def test_a_server_without_tenants(self):
         self.check(self.serve(tenants=()), "all", ())
 
+    def grant_much(self, granter):
+        """Grants alice the credit of three long jobs."""
+        for _ in range(2):
+            self.assertTrue(granter.ask(grant("alice", 2_000_000_000))["ok"])
+
     def stop(self, process):
         """Ends a server, and leaves no socket of it."""
         process.kill()
@@ -94,7 +100,7 @@ class Counts(Room):
             words = ("--journal", self.path(f"journal-{len(tenants)}"))
             process = self.serve(*words, tenants=tenants)
             with self.connect(process, "grants") as granter, self.connect(process, "alice" if tenants else "all") as client:
-                granter.ask(grant("alice", 2_000_000_000))
+                self.grant_much(granter)
                 for job in (1, 2, 3):
                     self.assertEqual(client.ask(submit_text(*long_job(), b"", tenant="alice")), {"job": job, "ok": True})
             self.stop(process)
@@ -107,7 +113,7 @@ class Counts(Room):
     def test_jobs_that_wait_and_fail(self):
         process = self.start("--clients", 4, "--workers", 1, "--grants", self.path("grants"), "--open-jobs", 3, *self.words("alice"))
         granter, alice = self.connect(process, "grants"), self.connect(process, "alice")
-        granter.ask(grant("alice", 2_000_000_000))
+        self.grant_much(granter)
         for job in range(1, 4):
             self.assertEqual(alice.ask(submit_text(*long_job(), b"", tenant="alice")), {"job": job, "ok": True})
         self.assertEqual(alice.ask(submit("alice")), {"job": 4, "ok": True})
@@ -165,7 +171,8 @@ class Counts(Room):
             with self.connect(process, "grants") as granter:
                 instances.add(self.asked(granter)["instance"])
             self.stop(process)
-            time.sleep(0.01)
+            # the instance is the start's millisecond
+            wait_for(lambda: time.time() * 1000 > max(instances) + 1, "another millisecond")
         self.assertEqual(len(instances), 2)
 
 

@@ -4,6 +4,7 @@ The units' own lines make the folders and start the servers, below a folder of t
 of /run/telgovan. Users and groups are numbers that nobody has.
 """
 
+import contextlib
 import errno
 import os
 import re
@@ -12,10 +13,10 @@ import socket
 import stat
 import subprocess
 import tempfile
-import time
 import unittest
 
-from programs import BPFJOBS, PATIENCE, TOP, frame, is_read
+from patience import PATIENCE, wait_for
+from programs import BPFJOBS, TOP, frame, is_read
 
 UNIT = os.path.join(TOP, "examples/systemd/bpfjobs@.service")
 SHARED = os.path.join(TOP, "examples/systemd/bpfjobs-tenants.service")
@@ -42,6 +43,15 @@ def as_user(user, groups):
         os.setuid(user)
 
     return become
+
+
+def listens(process, path):
+    """Whether a server takes connections at a path. It hasn't ended."""
+    assert process.poll() is None
+    with contextlib.suppress(ConnectionRefusedError, FileNotFoundError), socket.socket(socket.AF_UNIX) as stream:
+        stream.connect(path)
+        return True
+    return False
 
 
 def told_as(user, groups, path, request):
@@ -115,11 +125,8 @@ class Doors(unittest.TestCase):
             self.assertEqual(self.call(tenant, line).wait(PATIENCE), 0, line)
         self.processes[tenant] = self.call(tenant, *unit_lines("ExecStart"), stderr=subprocess.DEVNULL)
         self.addCleanup(self.end, tenant)
-        until = time.monotonic() + PATIENCE
-        while not all(os.path.exists(self.path(kind, tenant)) for kind in ("tenants", "grants")):
-            self.assertLess(time.monotonic(), until)
-            self.assertIsNone(self.processes[tenant].poll())
-            time.sleep(0.01)
+        for kind in ("tenants", "grants"):
+            wait_for(lambda: listens(self.processes[tenant], self.path(kind, tenant)), "a server")
 
     def end(self, tenant):
         """Stops a server by the unit's line, which goes on until the server is no process any more."""
@@ -276,11 +283,8 @@ class Shared(unittest.TestCase):
             self.assertEqual(self.call(line).wait(PATIENCE), 0, line)
         self.process = self.call(*unit_lines("ExecStart", SHARED), stderr=subprocess.DEVNULL)
         self.addCleanup(self.end)
-        until = time.monotonic() + PATIENCE
-        while not all(map(os.path.exists, map(self.path, TENANTS))):
-            self.assertLess(time.monotonic(), until)
-            self.assertIsNone(self.process.poll())
-            time.sleep(0.01)
+        for tenant in TENANTS:
+            wait_for(lambda: listens(self.process, self.path(tenant)), "a server")
 
     def end(self):
         if self.process:
@@ -363,7 +367,7 @@ class Settings(unittest.TestCase):
             self.assertLess(int(data.rstrip("M")) - 8 * started, int(memory.rstrip("M")))
 
 
-@unittest.skipUnless(shutil.which("systemd-analyze"), "there is no systemd-analyze")
+@unittest.skipUnless(shutil.which("systemd-analyze"), "needs systemd-analyze, of Debian's systemd")
 class Units(unittest.TestCase):
     def test_systemd_reads_them(self):
         with tempfile.TemporaryDirectory() as room:

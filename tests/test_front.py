@@ -14,7 +14,9 @@ import threading
 import time
 import unittest
 
-from programs import BPFJOBS, IS_SLOW, PATIENCE, TOP, assemble, frame, is_read, submit_text
+from patience import PATIENCE, wait_for
+from programs import BPFJOBS, IS_SLOW, TOP, assemble, frame, is_read, submit_text
+from test_clients import ASKED, by_timeouts, within
 from test_server import texts_of
 
 sys.path.insert(0, os.path.join(TOP, "examples"))
@@ -25,7 +27,6 @@ ADD = assemble("mov64 r0, 40\nadd64 r0, 2\nexit")
 TENANTS = ("alice", "bob")
 GRANTED = {"alice": 1000, "bob": 2000}
 NEW_KEY = ["openssl", "req", "-newkey", "ec", "-pkeyopt", "ec_paramgen_curve:P-256", "-nodes"]
-IDLE = 2
 
 
 def ends(events):
@@ -113,7 +114,7 @@ class Half:
             whole += piece
 
 
-@unittest.skipUnless(shutil.which("openssl"), "there is no openssl")
+@unittest.skipUnless(shutil.which("openssl"), "needs Debian's openssl")
 class Front(unittest.TestCase):
     @classmethod
     def setUpClass(cls):
@@ -130,7 +131,7 @@ class Front(unittest.TestCase):
     def setUp(self):
         room = tempfile.TemporaryDirectory()
         self.addCleanup(room.cleanup)
-        self.room = room.name
+        self.room, self.process = room.name, None
         for tenant in TENANTS:
             self.serve(tenant)
         self.write_table(alice="alice", bob="bob", expired="alice", forged="alice")
@@ -165,6 +166,10 @@ class Front(unittest.TestCase):
         os.replace(path + ".new", path)
 
     def front(self, *more):
+        """Starts a front, in the place of one that runs."""
+        if self.process:
+            self.process.kill()
+            self.process.wait()
         files = {"--cert": "front.crt", "--key": "front.key", "--authority": "authority.crt"}
         words = [word for option, name in files.items() for word in (option, self.made.path(name))]
         words += ["--table", os.path.join(self.room, "table"), *map(str, more)]
@@ -178,12 +183,11 @@ class Front(unittest.TestCase):
 
     def events(self, left=0):
         """The front's log, once so many connections are left and it has ended."""
-        until = time.monotonic() + PATIENCE
-        while time.monotonic() < until:
+        def are_left():
             events = [event["event"] for event in self.told()]
-            if events.count("opened") - events.count("closed") == left:
-                break
-            time.sleep(0.01)
+            return events.count("opened") - events.count("closed") == left
+
+        wait_for(are_left, f"{left} connections")
         self.process.send_signal(signal.SIGTERM)
         self.assertEqual(self.process.wait(PATIENCE), 0)
         return self.told()
@@ -200,10 +204,13 @@ class Front(unittest.TestCase):
             self.client(name).account("alice")
 
     def check_closed(self, client, tenant):
-        with self.assertRaises((OSError, EOFError)):
-            for _ in range(1000):
+        def is_closed():
+            try:
                 client.account(tenant)
-                time.sleep(0.01)
+            except (OSError, EOFError):
+                return True
+
+        wait_for(is_closed, "the end of a connection")
 
     def code_of(self, ask, *words):
         with self.assertRaises(clients.Refused) as caught:
@@ -336,7 +343,9 @@ class Front(unittest.TestCase):
             length = int.from_bytes(is_read(client.stream, 4), "big")
             self.assertEqual(json.loads(is_read(client.stream, length))["spent"], 3)
             client.stream.sendall(frame('{"op":"result","job":1}') * asked)
-            time.sleep(1)
+            with self.client("bob") as other:
+                for _ in range(ASKED):
+                    self.assertEqual(other.account("bob")["granted"], 2000)
             for _ in range(asked):
                 (length,) = {int.from_bytes(is_read(client.stream, 4), "big")}
                 parts = 0
@@ -345,27 +354,29 @@ class Front(unittest.TestCase):
                 self.assertEqual(parts, length)
             self.assertEqual(client.account("alice")["spent"], 3)
 
-    def read_beside(self, stream, busy):
-        """What comes on a stream, while another connection is never silent for long."""
+    def read_beside(self, stream, busy, idle):
+        """What comes on a stream, while another connection isn't silent for so many seconds."""
+        stream.settimeout(0.1)
         until = time.monotonic() + PATIENCE
-        while True:
-            busy.account("bob")
+        while time.monotonic() < until:
+            with within(idle, self.asked):
+                self.asked = time.monotonic()
+                busy.account("bob")
             with contextlib.suppress(socket.timeout):
                 return stream.recv(1)
-            self.assertLess(time.monotonic(), until)
+        self.fail("the connection stays open")
 
     def test_silence_ends_a_connection(self):
-        self.front("--idle", IDLE)
-        silent, busy = self.client("alice"), self.client("bob")
-        until = time.monotonic() + 2 * IDLE
-        while time.monotonic() < until:
-            busy.account("bob")
-            time.sleep(0.1)
-        self.check_closed(silent, "alice")
-        self.assertEqual(busy.account("bob")["granted"], 2000)
-        with socket.create_connection(("localhost", self.port), timeout=0.1) as stranger:
-            self.assertEqual(self.read_beside(stranger, busy), b"")  # it showed no certificate
-            busy.account("bob")
+        by_timeouts(self.check_silence)
+
+    def check_silence(self, idle):
+        self.front("--idle", idle)
+        self.asked = time.monotonic()
+        with within(idle, self.asked):
+            silent, busy = self.client("alice"), self.client("bob")
+        self.assertEqual(self.read_beside(silent.stream, busy, idle), b"")
+        with socket.create_connection(("localhost", self.port), timeout=PATIENCE) as stranger:
+            self.assertEqual(self.read_beside(stranger, busy, idle), b"")  # it showed no certificate
         (closed, failed) = [event for event in self.events(left=1) if event["event"] in ("closed", "failed")]
         self.assertEqual((closed["tenant"], closed["end"]), ("alice", "idle"))
         self.assertEqual((failed["why"], "tenant" in failed), ("TimeoutError", False))
@@ -381,11 +392,12 @@ class Front(unittest.TestCase):
         other.account("bob")
         self.check_refused("bob")
         first.stream.close()
-        until = time.monotonic() + PATIENCE
-        while time.monotonic() < until:
+
+        def is_granted():
             with contextlib.suppress(OSError, EOFError):
-                self.assertEqual(self.client("alice").account("alice")["granted"], 1000)
-                break
+                return self.client("alice").account("alice")["granted"]
+
+        self.assertEqual(wait_for(is_granted, "room for another one"), 1000)
         whys = {event["why"] for event in self.events(left=3) if event["event"] == "refused"}
         self.assertEqual(whys, {"too many", "too many of the tenant"})
 

@@ -128,7 +128,7 @@ class Graphs(unittest.TestCase):
             self.agree(room, 0, assemble(ladder))
 
 
-@unittest.skipUnless(shutil.which("dot"), "there is no dot")
+@unittest.skipUnless(shutil.which("dot"), "needs dot, of Debian's graphviz")
 class Drawings(unittest.TestCase):
     def test_dot_reads_each_graph(self):
         for program in sorted((Path(TOP) / "examples").glob("*.bpf")):

@@ -12,7 +12,6 @@ import stat
 import subprocess
 import tempfile
 import threading
-import time
 import unittest
 
 import journals
@@ -20,7 +19,8 @@ from journal_load import Load, good_jobs
 from journals import Keeper, book_of, payloads_of, read, record, starts_of, traced
 from programs import BPFJOBS, IS_SLOW, PATIENCE, assemble, submit_text
 from rows import code_of
-from test_clients import spawner
+from test_clients import beside_a_long_job, is_open
+from trees import comparable
 
 ADD = code_of("mov64 r0, 40 / add64 r0, 2 / exit")
 ACCOUNT = {"op": "account", "tenant": "t"}
@@ -31,20 +31,26 @@ def grant(amount, tenant="t"):
     return {"op": "grant", "tenant": tenant, "amount": amount}
 
 
-def open_job():
-    """Programs and a credit that keep a worker busy for a quarter of a second or more: tasks of 4,001 steps."""
-    count = 500 if IS_SLOW else 30_000
-    leaf = " / ".join(["mov64 r0, 0"] * 4000 + ["exit"])
-    middle = 100 * 4001 + 100 * 100
-    programs = [spawner(count // 100, 1, middle), spawner(100, 2, 4001), leaf]
-    return [(0, code_of(text)) for text in programs], count // 100 * (middle + 100)
-
-
 def submit(credit=3, tenant="t"):
     return json.loads(submit_text([(0, ADD)], credit, b"", tenant=tenant))
 
 
-class Room(unittest.TestCase):
+class Anew:
+    """Beside a folder with journals: a test that is tried again in another one."""
+
+    def beside_a_long_job(self, check, **more):
+        """Has a test at work beside a long job, whose request it is given with more in it, and
+        beside longer ones, as `test_clients.beside_a_long_job` does."""
+        def check_anew(programs, credit):
+            self.server.end()
+            self.room = tempfile.mkdtemp(dir=self.room)
+            self.server = self.keeper()
+            return check({**json.loads(submit_text(programs, credit, b"")), **more}, credit)
+
+        beside_a_long_job(check_anew)
+
+
+class Room(Anew, unittest.TestCase):
     """A folder with a journal, and the socket of its server."""
 
     def setUp(self):
@@ -67,6 +73,16 @@ class Room(unittest.TestCase):
         client = (server or self.server).connect()
         self.addCleanup(client.stream.close)
         return client
+
+    @contextlib.contextmanager
+    def fresh(self):
+        """A connection to a server with a journal of its own."""
+        folder = os.path.join(self.room, "other")
+        os.mkdir(folder)
+        server = self.keeper(folder=folder)
+        server.start()
+        yield self.connect(server)
+        server.end()
 
     def again(self, *more):
         """Kills the server, starts another one, and gives a connection to it."""
@@ -130,35 +146,28 @@ class Kept(Room):
         self.assertEqual(client.ask(ACCOUNT)["spent"], 3)
 
     def test_open_jobs_begin_anew(self):
-        programs, credit = open_job()
-        client = self.start()
-        client.ask(grant(credit + 10))
-        long = json.loads(submit_text(programs, credit, b""))
-        self.assertEqual(client.ask(long), {"job": 1, "ok": True})
-        self.assertEqual(client.ask(submit()), {"job": 2, "ok": True})
-        self.assertEqual(client.ask({"op": "result", "job": 1}), {"code": 77, "ok": False})
-        client = self.again()
-        self.assertEqual(client.ask(ACCOUNT)["open"] >= credit, True)
-        self.assertEqual(client.ask({"op": "result", "job": 1}), {"code": 77, "ok": False})
-        first, second = json.loads(client.over(1)), json.loads(client.over(2))
-        self.assertEqual((first["spent"] + first["returned"], second["spent"]), (credit, 3))
-        account = client.ask(ACCOUNT)
-        self.assertEqual((account["open"], account["spent"]), (0, first["spent"] + 3))
-        # the answer is that of a server that was never killed
-        with self.fresh() as other:
-            other.ask(grant(credit + 10))
-            other.ask(long)
-            self.assertEqual(json.loads(other.over(1)), first)
+        def check(long, credit):
+            client = self.start()
+            client.ask(grant(credit + 10))
+            self.assertEqual(client.ask(long), {"job": 1, "ok": True})
+            self.assertEqual(client.ask(submit()), {"job": 2, "ok": True})
+            client = self.again()
+            account = client.ask(ACCOUNT)
+            if not is_open(client, 1):
+                return False
+            self.assertGreaterEqual(account["open"], credit)
+            first, second = json.loads(client.over(1)), json.loads(client.over(2))
+            self.assertEqual((first["spent"] + first["returned"], second["spent"]), (credit, 3))
+            account = client.ask(ACCOUNT)
+            self.assertEqual((account["open"], account["spent"]), (0, first["spent"] + 3))
+            # the answer is that of a server that was never killed
+            with self.fresh() as other:
+                other.ask(grant(credit + 10))
+                other.ask(long)
+                self.assertEqual(comparable(json.loads(other.over(1))), comparable(first))
+            return True
 
-    @contextlib.contextmanager
-    def fresh(self):
-        """A connection to a server with a journal of its own."""
-        folder = os.path.join(self.room, "other")
-        os.mkdir(folder)
-        server = self.keeper(folder=folder)
-        server.start()
-        yield self.connect(server)
-        server.end()
+        self.beside_a_long_job(check)
 
     def test_refusals_leave_no_record(self):
         client = self.start()
@@ -171,18 +180,23 @@ class Kept(Room):
 
     def test_a_job_that_failed(self):
         """A job over the bound of open ones fails by 81, also once the server was killed."""
-        programs, credit = open_job()
-        client = self.start("--open-jobs", 1)
-        client.ask(grant(credit + 10))
-        client.ask(json.loads(submit_text(programs, credit, b"")))
-        self.assertEqual(client.ask(submit()), {"job": 2, "ok": True})
-        told = {"code": 81, "ok": False}
-        self.assertEqual(client.ask({"op": "result", "job": 2}), told)
-        client = self.again("--open-jobs", 1)
-        self.assertEqual(client.ask({"op": "status", "job": 2}), told)
-        self.assertTrue(json.loads(client.over(1))["ok"])
-        self.assertEqual(client.ask({"op": "result", "job": 2}), told)
-        self.assertEqual(client.ask(ACCOUNT)["open"], 0)
+        def check(long, credit):
+            client = self.start("--open-jobs", 1)
+            client.ask(grant(credit + 10))
+            client.ask(long)
+            self.assertEqual(client.ask(submit()), {"job": 2, "ok": True})
+            if not is_open(client, 1):
+                return False
+            told = {"code": 81, "ok": False}
+            self.assertEqual(client.ask({"op": "result", "job": 2}), told)
+            client = self.again("--open-jobs", 1)
+            self.assertEqual(client.ask({"op": "status", "job": 2}), told)
+            self.assertTrue(json.loads(client.over(1))["ok"])
+            self.assertEqual(client.ask({"op": "result", "job": 2}), told)
+            self.assertEqual(client.ask(ACCOUNT)["open"], 0)
+            return True
+
+        self.beside_a_long_job(check)
 
     def test_forgotten_jobs_stay_forgotten(self):
         client = self.start("--keep", 2)
@@ -452,7 +466,7 @@ class Failing(Room):
         self.assertEqual([line["code"] for line in closed], [84])
 
 
-@unittest.skipUnless(shutil.which("strace"), "there is no strace")
+@unittest.skipUnless(shutil.which("strace"), "needs Debian's strace")
 class Synced(Room):
     """Each reply is written behind the sync of the records that it rests on."""
 
@@ -520,7 +534,7 @@ class Synced(Room):
         self.assertIn(f"<{os.path.realpath(self.server.journal)}>", lines)
 
 
-@unittest.skipUnless(shutil.which("strace"), "there is no strace")
+@unittest.skipUnless(shutil.which("strace"), "needs Debian's strace")
 class FailingCalls(Room):
     """The n-th write or sync of the journal fails. All that was told is there again, and nothing was told behind it."""
 
@@ -564,7 +578,7 @@ class Kills(Room):
         load = Load(self.room, seed, good_jobs(assemble, seed), **how)
         self.addCleanup(load.end)
         for _ in range(rounds):
-            load.round(longest=0.25)
+            load.round(longest=400)
         self.assertEqual(load.wrong, [])
         load.audit_all()
         self.assertEqual(load.wrong, [])

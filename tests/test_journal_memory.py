@@ -20,7 +20,7 @@ NOT_STARTED = 81, 82, 99
 SPENT = 3
 
 
-@unittest.skipUnless(shutil.which("cc"), "there is no C compiler")
+@unittest.skipUnless(shutil.which("cc"), "needs Debian's gcc or clang")
 class Refused(Room):
     """One request for memory of a server is refused, in each run another one."""
 

@@ -1,4 +1,5 @@
-"""`bpfjobs serve --journal FILE --journal-sync interval`: replies wait for no sync, and journals are synced once a second."""
+"""`bpfjobs serve --journal FILE --journal-sync interval`: replies wait for no sync, and journals
+are synced at intervals. `.ci/in_time.py` tells how long these are."""
 
 import contextlib
 import os
@@ -10,13 +11,13 @@ import time
 import unittest
 
 import test_journal
-from journals import Keeper, Raw, book_of, payloads_of, traced
-from programs import BPFJOBS, PATIENCE
+from journals import Keeper, Raw, book_of, kill_traced, payloads_of, read
+from patience import PATIENCE, wait_for
+from programs import BPFJOBS
+from test_clients import ASKED
 from test_journal import ACCOUNT, Room, grant, submit
 
 INTERVAL = "--journal-sync", "interval"
-# A second between two syncs, and what a busy machine takes for one.
-SYNCED = 2.5
 
 
 class AtIntervals(Room):
@@ -58,37 +59,39 @@ class Kept(AtIntervals):
 
     def test_a_kill_behind_the_interval(self):
         told = self.busy(self.start())
-        time.sleep(SYNCED)
+        # a grant, a job, and its end
+        wait_for(lambda: len(payloads_of(self.data())[0]) >= 3, "the records")
         self.server.kill()
         self.check_kept(told)
 
     def test_kills_at_any_moment(self):
-        """A later server goes on from a beginning of what was told, with at most the last second gone."""
+        """A later server goes on from a beginning of what was told, which has all that stood in the
+        journal."""
         before = 0
-        for wait in (0, 0.3, 0.6, 0.9, 1.2, 1.5):
+        for written in (0, 1, 0, 2, 0, 1):
             client = self.start()
             amount = client.ask(ACCOUNT).get("granted", 0)
-            self.assertGreaterEqual(amount, before)
-            begun = time.monotonic()
-            moments = []
-            while time.monotonic() < begun + wait:
+            self.assertEqual(amount, before)
+            for _ in range(written):
+                found = self.granted()
+                while self.granted() == found:
+                    amount += 1
+                    self.assertEqual(client.ask(grant(1))["granted"], amount)
+            least = self.granted()
+            for _ in range(ASKED):
                 amount += 1
                 self.assertEqual(client.ask(grant(1))["granted"], amount)
-                moments.append((time.monotonic(), amount))
             self.server.kill()
-            end = time.monotonic()
             before = self.granted()
-            self.assertLessEqual(before, amount)
+            self.assertTrue(least <= before <= amount, (least, before, amount))
             self.assertEqual(payloads_of(self.data())[1], b"")
-            early = [told for moment, told in moments if moment < end - SYNCED]
-            self.assertGreaterEqual(before, max(early, default=0))
 
     def test_a_record_or_none(self):
         """What is there is in order, and none of it in part."""
         client = self.start()
         for amount in range(1, 200):
             client.ask(grant(amount))
-        time.sleep(0.5)
+        wait_for(self.data, "records")
         self.server.kill()
         payloads, rest = payloads_of(self.data())
         amounts = [int.from_bytes(payload[-4:], "little") for payload in payloads]
@@ -119,11 +122,11 @@ class Doors(AtIntervals):
         with Raw(os.path.join(self.room, "grants"), self.server.process) as granting:
             for tenant in ("t", "a", "b"):
                 self.assertTrue(granting.ask(grant(9, tenant))["ok"])
-        time.sleep(SYNCED)
+        files = {tenant: os.path.join(self.room, name) for tenant, name in (("t", "journal"), ("a", "journal.a"), ("b", "journal.b"))}
+        wait_for(lambda: all(map(os.path.getsize, files.values())), "the records of each journal")
         self.server.kill()
-        for tenant, name in (("t", "journal"), ("a", "journal.a"), ("b", "journal.b")):
-            with open(os.path.join(self.room, name), "rb") as file:
-                self.assertEqual(book_of(file.read()).granted, {tenant: 9})
+        for tenant, path in files.items():
+            self.assertEqual(book_of(read(path)).granted, {tenant: 9})
 
 
 class Words(Room):
@@ -191,62 +194,76 @@ class FailingAtIntervals(test_journal.Failing):
 
     def test_a_limit_for_files(self):
         super().test_a_limit_for_files()
-        self.assertGreater(self.told, 1000 // 22)
+        self.assertGreaterEqual(self.told, 1000 // 22)
 
 
-@unittest.skipUnless(shutil.which("strace"), "there is no strace")
+@unittest.skipUnless(shutil.which("strace"), "needs Debian's strace")
 class Synced(AtIntervals):
-    """Syncs come about once a second, and no reply waits for one."""
+    """No reply waits for a sync, and nothing is synced where nothing changed."""
 
-    def traced(self, work, *strace):
-        """The calls on the journal, as (second, name), while a client is at work."""
-        told = os.path.join(self.room, "calls")
-        ahead = ["strace", "-f", "-ttt", "-y", "-qq", "-o", told, "-e", "trace=write,fdatasync", *strace]
-        client = self.start(ahead=ahead)
-        lines = traced(told, self.server.process, lambda: work(client))
-        pattern = re.compile(r"^\d+ +(\d+\.\d+) (\w+)\(\d+<" + re.escape(os.path.realpath(self.server.journal)) + ">")
-        return [(float(found[1]), found[2]) for found in map(pattern.match, lines) if found]
+    CALL = re.compile(r"^\d+ +(\w+)\(\d+<([^>]*)>")
 
-    def test_once_a_second(self):
-        replies = 0
+    def traced(self, *strace):
+        """Starts a server whose writes and syncs strace tells."""
+        self.told = os.path.join(self.room, "calls")
+        self.server.start(ahead=["strace", "-f", "-y", "-qq", "-o", self.told, "-e", "trace=write,sendto,fdatasync", *strace])
+        self.addCleanup(self.kill_traced, self.server.process, is_delayed=bool(strace))
 
-        def work(client):
-            nonlocal replies
-            until = time.monotonic() + 3.5
-            while time.monotonic() < until:
-                client.ask(grant(1))
-                replies += 1
+    def kill_traced(self, process, is_delayed=False):
+        """Kills a server, and not strace alone."""
+        if process.poll() is None:
+            kill_traced(process, is_delayed)
 
-        calls = self.traced(work)
-        syncs = [second for second, name in calls if name == "fdatasync"]
-        self.assertIn(len(syncs), (2, 3), calls)
-        self.assertGreater(replies, 100)
-        # a write ahead of each, in one piece
-        self.assertEqual([name for _, name in calls], ["write", "fdatasync"] * len(syncs))
-        self.assertTrue(all(later - first > 0.9 for first, later in zip(syncs, syncs[1:])), syncs)
+    def lines(self):
+        with open(self.told, encoding="utf-8") as file:
+            return file.read().splitlines()
+
+    def calls(self, name="journal"):
+        """The calls on a journal that have begun, by their names."""
+        path = os.path.realpath(os.path.join(self.room, name))
+        return [found[1] for found in map(self.CALL.match, self.lines()) if found and found[2] == path]
+
+    def test_replies_between_syncs(self):
+        """More replies go out than there are syncs. Each sync has one write ahead of it."""
+        self.traced()
+        client, replies = self.connect(), 0
+        until = time.monotonic() + PATIENCE
+        while self.calls().count("fdatasync") < 3 or replies < ASKED:
+            client.ask(grant(1))
+            replies += 1
+            self.assertLess(time.monotonic(), until)
+        self.kill_traced(self.server.process)
+        calls = self.calls()
+        self.assertLess(2 * calls.count("fdatasync"), replies)
+        self.assertEqual(calls, (["write", "fdatasync"] * len(calls))[: len(calls)])
 
     def test_nothing_to_sync(self):
-        """A server that nobody changes syncs nothing."""
-        def work(client):
+        """A journal that nobody changes isn't synced while another one is."""
+        words = ["--grants", os.path.join(self.room, "grants"), "--tenant", f"a={os.path.join(self.room, 'a')}"]
+        self.server = self.keeper(*words)
+        self.traced()
+        with Raw(os.path.join(self.room, "grants"), self.server.process) as client:
             client.ask(grant(1))
-            time.sleep(3.5)
-
-        self.assertEqual([name for _, name in self.traced(work)], ["write", "fdatasync"])
+            wait_for(lambda: "fdatasync" in self.calls(), "a sync")
+            until = time.monotonic() + PATIENCE
+            while self.calls("journal.a").count("fdatasync") < 3:
+                client.ask(grant(1, "a"))
+                self.assertLess(time.monotonic(), until)
+        self.kill_traced(self.server.process)
+        self.assertEqual(self.calls(), ["write", "fdatasync"])
 
     def test_a_slow_disk(self):
-        """Records are added and replies go out while a sync takes three seconds."""
-        longest = 0
-
-        def work(client):
-            nonlocal longest
-            until = time.monotonic() + 4
-            while (begun := time.monotonic()) < until:
-                client.ask(grant(1))
-                longest = max(longest, time.monotonic() - begun)
-
-        calls = self.traced(work, "-e", "inject=fdatasync:delay_enter=3000000")
-        self.assertEqual([name for _, name in calls][:2], ["write", "fdatasync"])
-        self.assertLess(longest, 1.5)
+        """Records are added and replies go out while a sync takes longer than anybody waits."""
+        self.traced("-e", f"inject=fdatasync:delay_enter={PATIENCE}000000")
+        client, amount, until = self.connect(), 0, time.monotonic() + PATIENCE
+        behind = 0
+        while behind < ASKED:
+            amount += 1
+            self.assertEqual(client.ask(grant(1))["granted"], amount)
+            behind += "fdatasync" in self.calls()
+            self.assertLess(time.monotonic(), until)
+        self.assertEqual(self.calls(), ["write", "fdatasync"])
+        self.assertLess(self.granted(), amount)
 
     def test_a_sync_that_fails(self):
         """An error of the disk ends it, and nobody is told anything from then on."""

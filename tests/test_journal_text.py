@@ -10,7 +10,8 @@ import time
 
 import journals
 from journals import change_of, payloads_of, record, starts_of
-from programs import BPFJOBS, IS_SLOW, PATIENCE
+from patience import PATIENCE, wait_for
+from programs import BPFJOBS, IS_SLOW
 from test_journal import ADD, Room, grant, submit
 
 HALF = bytes.fromhex("b7000000010000009500000000000000")
@@ -404,7 +405,8 @@ class Files(Told):
         self.write(WHOLE[:-1])
         os.chmod(self.server.journal, stat.S_IRUSR)
         before = os.stat(self.server.journal)
-        time.sleep(0.01)
+        # the clock of a file system moves by some milliseconds
+        wait_for(lambda: time.time_ns() > before.st_ctime_ns + 10_000_000, "the clock")
         for words in ((), ("--check",)):
             self.assertEqual(self.journal(*words)[0], 0)
         after = os.stat(self.server.journal)

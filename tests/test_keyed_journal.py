@@ -11,8 +11,10 @@ import unittest
 
 import journals
 from journals import MOST_KEYS, Keeper, book_of, by_key, change_of, key_kept, payloads_of, record, starts_of, traced
-from programs import BPFJOBS, IS_SLOW, PATIENCE, submit_text
-from test_journal import ADD, grant, open_job, submit
+from patience import PATIENCE, wait_for
+from programs import BPFJOBS, IS_SLOW, submit_text
+from test_clients import is_open
+from test_journal import ADD, grant, submit
 from test_tenant_journal import Room as TenantRoom
 
 NO_REQUEST = {"code": 73, "ok": False}
@@ -108,7 +110,7 @@ class Kept(Room):
             for thread in threads:
                 thread.start()
             if number % 2:
-                time.sleep(0.003 * number)
+                wait_for(lambda: len(replies) >= number, "some of the replies")
                 self.again()
             for thread in threads:
                 thread.join()
@@ -175,18 +177,23 @@ class Kept(Room):
 
     def test_a_start_that_is_refused(self):
         """The job was taken, and failed by 81: its key has it from then on."""
-        programs, credit = open_job()
-        self.server.words += ["--tenant-jobs", "1"]
-        client = self.granted(credit + 10)
-        self.taken(client, {**json.loads(submit_text(programs, credit, b"", tenant="alice")), "key": "long"}, 1)
-        self.taken(client, keyed("failed"), 2)
-        self.assertEqual(client.ask({"op": "result", "job": 2}), TOO_MANY)
-        client = self.restarted()
-        self.assertEqual(client.ask(asked_by("long")), {"job": 1, "ok": True})
-        client.over(1)
-        self.check_nothing_taken(client, map(asked_by, ("failed", "long")), (2, 1))
-        self.assertEqual(client.ask({"op": "result", "job": 2}), TOO_MANY)
-        self.assertEqual(self.keys(client), {1: "long", 2: "failed"})
+        def check(long, credit):
+            self.server.words += ["--tenant-jobs", "1"]
+            client = self.granted(credit + 10)
+            self.taken(client, long, 1)
+            self.taken(client, keyed("failed"), 2)
+            if not is_open(client, 1):
+                return False
+            self.assertEqual(client.ask({"op": "result", "job": 2}), TOO_MANY)
+            client = self.restarted()
+            self.assertEqual(client.ask(asked_by("long")), {"job": 1, "ok": True})
+            client.over(1)
+            self.check_nothing_taken(client, map(asked_by, ("failed", "long")), (2, 1))
+            self.assertEqual(client.ask({"op": "result", "job": 2}), TOO_MANY)
+            self.assertEqual(self.keys(client), {1: "long", 2: "failed"})
+            return True
+
+        self.beside_a_long_job(check, tenant="alice", key="long")
 
     def test_a_journal_without_keys(self):
         """One of a server that had none is gone on with, byte for byte, and has keys from then on."""
@@ -204,20 +211,25 @@ class Kept(Room):
         client = self.restarted()
         self.assertEqual(self.keys(client), {1: None, 2: "a"})
 
+    def is_recorded(self, key):
+        return key in dict(book_of(self.server.data("alice")).keyed).values()
+
     def test_by_the_second(self):
         """With `--journal-sync interval` a job and its key may both be gone after a kill. An orderly end keeps them."""
         self.server.words += ["--journal-sync", "interval"]
         for number in range(3 if IS_SLOW else 6):
             client = self.granted()
-            time.sleep(number * 0.3)
             key = f"k{number}"
             told = client.ask(keyed(key))
             self.assertTrue(told["ok"])
+            if number % 2:
+                # a second later it is in the journal
+                wait_for(lambda: self.is_recorded(key), "a record")
             client = self.restarted()
             keys = self.keys(client)
             wanted = next(({"job": job, "ok": True} for job, other in keys.items() if other == key), NO_REQUEST)
             self.assertEqual(client.ask(asked_by(key)), wanted)
-            self.assertIn(wanted, (told, NO_REQUEST))
+            self.assertIn(wanted, (told,) if number % 2 else (told, NO_REQUEST))
             self.server.kill()
         self.server.start("--until-eof", stdin=subprocess.PIPE)
         self.grant("alice")
@@ -261,7 +273,9 @@ class Compacted(Room):
 
     def test_jobs_in_each_state(self):
         """Keys of jobs that are over, failed, forgotten and open, over two compactions."""
-        programs, credit = open_job()
+        self.beside_a_long_job(self.check_each_state, tenant="alice", key="long")
+
+    def check_each_state(self, long, credit):
         self.server.words += ["--keep", "4", "--tenant-jobs", "1"]
         client = self.granted(3 * credit)
         for number in range(1, 16):
@@ -269,9 +283,11 @@ class Compacted(Room):
             self.taken(client, {**one, "buffer": bytes(60_000).hex()} if number < 5 else one, number)
             client.over(number)
         wanted = {number: f"k{number}" for number in range(1, 16) if number % 3}
-        long = {**json.loads(submit_text(programs, credit, b"", tenant="alice")), "key": "long"}
         self.taken(client, long, 16)
         self.taken(client, keyed("failed"), 17)
+        self.server.kill()
+        if 16 in book_of(self.server.data("alice")).ends:
+            return False
         wanted |= {16: "long", 17: "failed"}
         snapshot = self.compact()
         kinds = [payload[0] for payload in payloads_of(snapshot)[0]]
@@ -286,7 +302,10 @@ class Compacted(Room):
         self.assertEqual(listed, {number: wanted.get(number) for number in listed})
         self.assertLessEqual({16, 17}, set(listed))
         self.assertLess(len(listed), 8)
-        # once more, with jobs that came since
+        return self.check_once_more(client, wanted)
+
+    def check_once_more(self, client, wanted):
+        """Another compaction, with jobs that came since."""
         for number in range(18, 40):
             self.taken(client, keyed(f"k{number}"), number)
             client.over(number)
@@ -298,6 +317,7 @@ class Compacted(Room):
         self.check_nothing_taken(client, map(asked_by, wanted.values()), wanted)
         self.assertEqual(self.keys(client), {number: f"k{number}" for number in range(36, 40)})
         self.taken(client, keyed("next"), 40)
+        return True
 
     def test_the_last_thousand(self):
         """Older keys have no job any more: of records that are replayed, and of a snapshot."""
@@ -449,7 +469,7 @@ class Damage(Room):
                 self.assertEqual(self.refused(), f"bpfjobs: {self.server.file('alice')}: {told}\n")
 
 
-@unittest.skipUnless(shutil.which("strace"), "there is no strace")
+@unittest.skipUnless(shutil.which("strace"), "needs Debian's strace")
 class Synced(Room):
     def test_a_key_that_another_connection_asks_for(self):
         """It is told once the record of its job is on the disk, as the first one is."""
@@ -465,7 +485,8 @@ class Synced(Room):
         def work():
             began = time.monotonic()
             first.stream.sendall(journals.frame(json.dumps(keyed("a"))))
-            time.sleep(waited / 5)
+            # the write of its record is over, and the sync begins
+            wait_for(lambda: book_of(self.server.data("alice")).keyed, "the record of a job")
             self.taken(second, asked_by("a"), 1)
             self.assertGreater(time.monotonic() - began, waited)
             self.assertEqual(first.next_told(), b'{"job":1,"ok":true}')

@@ -10,9 +10,11 @@ import tempfile
 import time
 import unittest
 
-from programs import BPFJOBS, PATIENCE, VERSION, Server, frame, frames, is_read, submit_text
+from journals import book_of, read
+from patience import PATIENCE
+from programs import BPFJOBS, VERSION, Server, frame, frames, is_read, submit_text
 from rows import code_of
-from test_clients import Client, long_job, result_of
+from test_clients import Client, beside_a_long_job, by_timeouts, is_open, result_of, within
 from test_local import Client as LocalClient
 
 ADD = "mov64 r0, 40 / add64 r0, 2 / exit"
@@ -59,6 +61,19 @@ def told(lines, event):
 def refusals(*codes, connection=1):
     """The lines of a connection's refusals, without their times."""
     return [{"connection": connection, "code": code} for code in codes]
+
+
+def last_open(client, job):
+    """A moment at which a job was open still, the last that is known of."""
+    moment = asked = time.monotonic()
+    while is_open(client, job):
+        moment, asked = asked, time.monotonic()
+    return moment
+
+
+def read_to_end(stream):
+    while stream.recv(4096):
+        pass
 
 
 class Log(unittest.TestCase):
@@ -142,29 +157,33 @@ class Log(unittest.TestCase):
 
     def test_refusals(self):
         """A job that isn't taken, one whose start is refused, and each other request that is refused."""
-        programs, credit = long_job()
-        with self.serve("--open-jobs", 1, workers=1) as server:
-            client = Client(server)
-            codes = [client.ask(submit_text([(0, code_of(ADD))], 3, b"", tenant="nobody"))["code"]]
-            client.ask({"op": "grant", "tenant": "t", "amount": credit + 10})
-            codes.append(client.ask(submit_text([(0, code_of(ADD))], credit + 11, b""))["code"])
-            codes.append(client.ask(submit_text([(0, code_of("mov64 r0, r9 / exit"))], 3, b""))["code"])
-            codes.append(client.ask(submit_text([(0, b"none")], 3, b""))["code"])
-            for asked in ({"op": "result", "job": 7}, {"op": "status", "job": 7}, {"op": "account", "tenant": "u"}, {"op": "none"}, "none"):
-                codes.append(client.ask(asked)["code"])
-            self.assertEqual(client.ask(submit_text(programs, credit, b"")), {"job": 1, "ok": True})
-            self.assertEqual(client.ask(submit_text([(0, code_of(ADD))], 3, b"")), {"job": 2, "ok": True})
-            # that it is open is told to its client alone
-            self.assertEqual(client.ask({"op": "result", "job": 1})["code"], 77)
-            self.assertTrue(result_of(client, 1)["ok"])
-            # a job that failed: its refusal is what its result tells
-            codes.append(client.ask({"op": "result", "job": 2})["code"])
-            client.stream.close()
-            lines = self.ended(server)
-        self.assertEqual((codes[:2], codes[4:]), ([74, 75], [76, 76, 74, 73, 72, 81]))
-        self.assertEqual(told(lines, "refused"), refusals(*codes))
-        self.assertEqual(told(lines, "failed"), [{"job": 2, "code": 81}])
-        self.assertEqual([line["job"] for line in told(lines, "started")], [1])
+        def check(programs, credit):
+            with self.serve("--open-jobs", 1, workers=1) as server:
+                client = Client(server)
+                codes = [client.ask(submit_text([(0, code_of(ADD))], 3, b"", tenant="nobody"))["code"]]
+                client.ask({"op": "grant", "tenant": "t", "amount": credit + 10})
+                codes.append(client.ask(submit_text([(0, code_of(ADD))], credit + 11, b""))["code"])
+                codes.append(client.ask(submit_text([(0, code_of("mov64 r0, r9 / exit"))], 3, b""))["code"])
+                codes.append(client.ask(submit_text([(0, b"none")], 3, b""))["code"])
+                for asked in ({"op": "result", "job": 7}, {"op": "status", "job": 7}, {"op": "account", "tenant": "u"}, {"op": "none"}, "none"):
+                    codes.append(client.ask(asked)["code"])
+                self.assertEqual(client.ask(submit_text(programs, credit, b"")), {"job": 1, "ok": True})
+                self.assertEqual(client.ask(submit_text([(0, code_of(ADD))], 3, b"")), {"job": 2, "ok": True})
+                # that it is open is told to its client alone
+                if not is_open(client, 1):
+                    return False
+                self.assertTrue(result_of(client, 1)["ok"])
+                # a job that failed: its refusal is what its result tells
+                codes.append(client.ask({"op": "result", "job": 2})["code"])
+                client.stream.close()
+                lines = self.ended(server)
+            self.assertEqual((codes[:2], codes[4:]), ([74, 75], [76, 76, 74, 73, 72, 81]))
+            self.assertEqual(told(lines, "refused"), refusals(*codes))
+            self.assertEqual(told(lines, "failed"), [{"job": 2, "code": 81}])
+            self.assertEqual([line["job"] for line in told(lines, "started")], [1])
+            return True
+
+        beside_a_long_job(check)
 
     def test_whose_a_job_is(self):
         """It is told with the connection that asked for it, by whichever worker."""
@@ -194,79 +213,104 @@ class Log(unittest.TestCase):
         self.assertEqual({line["job"]: line["connection"] for line in started if line["job"] <= len(jobs)}, {job: numbers[client] for job, client in jobs.items()})
 
     def test_how_long_a_job_waits(self):
-        """For the one worker, behind another job."""
-        programs, credit = long_job()
-        with self.serve(workers=1) as server:
-            client = Client(server)
-            client.ask({"op": "grant", "tenant": "t", "amount": credit + 3})
-            client.ask(submit_text(programs, credit, b""))
-            self.assertEqual(client.ask(submit_text([(0, code_of(ADD))], 3, b"")), {"job": 2, "ok": True})
-            result_of(client, 2)
-            client.stream.close()
-            lines = self.ended(server)
-        first, second = [line["wait"] for line in lines if line["event"] == "started"]
-        (ended,) = [line for line in lines if line["event"] == "ended" and line["job"] == 1]
-        began = [line["time"] for line in lines if line["event"] == "granted"][0]
-        self.assertLess(first, ended["ms"] + 1000)
-        self.assertLessEqual(abs(second - ended["ms"]), 20 + (ended["time"] - began - ended["ms"]))
+        """For the one worker, as long as another job is open, and no longer than its client does."""
+        def check(programs, credit):
+            with self.serve(workers=1) as server:
+                client = Client(server)
+                client.ask({"op": "grant", "tenant": "t", "amount": credit + 3})
+                first_asked = time.monotonic()
+                client.ask(submit_text(programs, credit, b""))
+                asked = time.monotonic()
+                self.assertEqual(client.ask(submit_text([(0, code_of(ADD))], 3, b"")), {"job": 2, "ok": True})
+                taken = time.monotonic()
+                least = last_open(client, 1) - taken
+                first_over = time.monotonic()
+                result_of(client, 2)
+                over = time.monotonic()
+                client.stream.close()
+                lines = self.ended(server)
+            first, second = [line["wait"] for line in lines if line["event"] == "started"]
+            (ended,) = [line for line in lines if line["event"] == "ended" and line["job"] == 1]
+            # the log has whole milliseconds
+            self.assertLessEqual(first + ended["ms"], 1000 * (first_over - first_asked) + 1)
+            self.assertTrue(1000 * least - 1 <= second <= 1000 * (over - asked) + 1)
+            return least > 0.02
+
+        beside_a_long_job(check)
 
     def test_jobs_that_begin_anew(self):
         """One that a journal starts again comes from no connection."""
-        programs, credit = long_job()
-        with tempfile.TemporaryDirectory() as room:
-            journal = os.path.join(room, "journal")
-            with Server(sessions=2, workers=1, more=("--journal", journal)) as server:
-                client = Client(server)
-                client.ask({"op": "grant", "tenant": "t", "amount": 3 * credit})
-                for job in (1, 2):
-                    self.assertEqual(client.ask(submit_text(programs, credit, b"")), {"job": job, "ok": True})
-                client.stream.close()
-                server.process.kill()
-                server.process.wait()
-            with self.serve("--journal", journal, sessions=1) as server:
-                client = Client(server)
-                self.assertEqual(client.ask(submit_text(programs, credit, b"")), {"job": 3, "ok": True})
-                for job in (1, 2, 3):
-                    self.assertTrue(result_of(client, job)["ok"])
-                client.stream.close()
-                lines = self.ended(server)
-        self.assertEqual([(line["job"], line.get("connection")) for line in told(lines, "started")], [(1, None), (2, None), (3, 1)])
+        def check(programs, credit):
+            long = submit_text(programs, credit, b"")
+            with tempfile.TemporaryDirectory() as room:
+                journal = os.path.join(room, "journal")
+                with Server(sessions=2, workers=1, more=("--journal", journal)) as server:
+                    client = Client(server)
+                    for _ in range(3):
+                        client.ask({"op": "grant", "tenant": "t", "amount": credit})
+                    for job in (1, 2):
+                        self.assertEqual(client.ask(long), {"job": job, "ok": True})
+                    server.process.kill()
+                    server.process.wait()
+                    client.stream.close()
+                if book_of(read(journal)).ends:
+                    return False
+                with self.serve("--journal", journal, sessions=1) as server:
+                    client = Client(server)
+                    self.assertEqual(client.ask(long), {"job": 3, "ok": True})
+                    for job in (1, 2, 3):
+                        self.assertTrue(result_of(client, job)["ok"])
+                    client.stream.close()
+                    lines = self.ended(server)
+            self.assertEqual([(line["job"], line.get("connection")) for line in told(lines, "started")], [(1, None), (2, None), (3, 1)])
+            return True
 
-    def test_how_connections_end(self):
-        with self.serve("--timeout", 1, sessions=6) as server:
-            account = frame(json.dumps({"op": "account", "tenant": "t"}))
+        beside_a_long_job(check)
+
+    def end_each_way(self, server, seconds):
+        """Six connections, each of which ends in another way."""
+        account = frame(json.dumps({"op": "account", "tenant": "t"}))
+        with within(seconds, time.monotonic()):
             client = Client(server)
             client.ask({"op": "grant", "tenant": "t", "amount": 3})
             client.ask(submit_text([(0, code_of(ADD))], 3, bytes(20_000)))
             result_of(client, 1)
             client.stream.close()
-            with server.connect() as stream:  # the input's end
-                stream.sendall(account * 3)
-                stream.shutdown(socket.SHUT_WR)
-                while stream.recv(4096):
-                    pass
-            with server.connect() as stream:  # too large
-                stream.sendall(account + b"\x00\x10\x00\x01")
-                while stream.recv(4096):
-                    pass
-            with server.connect() as stream:  # silent within a frame
+        with within(seconds, time.monotonic()), server.connect() as stream:  # the input's end
+            stream.sendall(account * 3)
+            stream.shutdown(socket.SHUT_WR)
+            read_to_end(stream)
+        with within(seconds, time.monotonic()), server.connect() as stream:  # too large
+            stream.sendall(account + b"\x00\x10\x00\x01")
+            read_to_end(stream)
+        begun = time.monotonic()
+        with server.connect() as stream:  # silent within a frame
+            with within(seconds, begun):
                 stream.sendall(account * 2 + account[:-1])
-                while stream.recv(4096):
-                    pass
-            with server.connect() as stream:  # reset
-                stream.sendall(account)
-                is_read(stream, 8)
-                stream.setsockopt(socket.SOL_SOCKET, socket.SO_LINGER, struct.pack("ii", 1, 0))
-            with server.connect() as stream:  # nothing is taken of what is answered
-                stream.setsockopt(socket.SOL_SOCKET, socket.SO_RCVBUF, 4096)
+            read_to_end(stream)
+        with within(seconds, time.monotonic()), server.connect() as stream:  # reset
+            stream.sendall(account)
+            is_read(stream, 8)
+            stream.setsockopt(socket.SOL_SOCKET, socket.SO_LINGER, struct.pack("ii", 1, 0))
+        begun = time.monotonic()
+        with server.connect() as stream:  # nothing is taken of what is answered
+            stream.setsockopt(socket.SOL_SOCKET, socket.SO_RCVBUF, 4096)
+            with within(seconds, begun):
                 stream.sendall(frames([json.dumps({"op": "result", "job": 1})] * 2000))
-                lines = self.ended(server)
-        closed = told(lines, "closed")
-        self.assertEqual([line["connection"] for line in closed], [1, 2, 3, 4, 5, 6])
-        lines, closed = [line for line in lines if line["event"] == "closed"][1:], closed[1:]
-        self.assertEqual([(line["code"], line["end"]) for line in closed], [(0, "input"), (71, "frame too large"), (83, "timeout"), (83, "cut"), (84, "timeout")])
-        self.assertEqual([line["requests"] for line in closed[:4]], [3, 1, 2, 1])
-        self.assertTrue(1000 <= lines[2]["ms"] < 1000 * PATIENCE)
+            return self.ended(server)
+
+    def test_how_connections_end(self):
+        def check(seconds):
+            with self.serve("--timeout", seconds, sessions=6) as server:
+                lines = self.end_each_way(server, seconds)
+            closed = told(lines, "closed")
+            self.assertEqual([line["connection"] for line in closed], [1, 2, 3, 4, 5, 6])
+            self.assertEqual([(line["code"], line["end"]) for line in closed[1:]], [(0, "input"), (71, "frame too large"), (83, "timeout"), (83, "cut"), (84, "timeout")])
+            self.assertEqual([line["requests"] for line in closed[1:5]], [3, 1, 2, 1])
+            (silent,) = [line for line in lines if line["event"] == "closed" and line["connection"] == 4]
+            self.assertGreaterEqual(silent["ms"], 1000 * seconds)
+
+        by_timeouts(check)
 
     def test_a_server_that_its_host_stops(self):
         with self.serve("--until-eof", sessions=100, stdin=subprocess.PIPE) as server:
@@ -346,7 +390,7 @@ class Log(unittest.TestCase):
             self.assertEqual(server.process.wait(PATIENCE), 0)
 
     def test_nothing_is_told_unasked(self):
-        for words in ((), ("--clients", 2), ("--timeout", 1, "--until-eof")):
+        for words in ((), ("--clients", 2), ("--timeout", PATIENCE, "--until-eof")):
             with self.subTest(words):
                 with Server(sessions=2, workers=2, more=words, stderr=subprocess.PIPE, stdin=subprocess.PIPE) as server:
                     client = Client(server)

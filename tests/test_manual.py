@@ -21,7 +21,7 @@ def completed(name, *words):
     script = f"""source "$1"; shift
         COMP_WORDS=("$@"); COMP_CWORD=$(($# - 1)); _{name}; printf '%s\\n' "${{COMPREPLY[@]}}" """
     ran = subprocess.run(["bash", "-c", script, "bash", str(FOLDER / f"{name}.bash"), name, *words],
-                         capture_output=True, text=True, check=True, timeout=60, cwd=programs.TOP)
+                         capture_output=True, text=True, check=True, timeout=programs.PATIENCE, cwd=programs.TOP)
     return ran.stdout.split()
 
 
@@ -44,11 +44,11 @@ class Manual(unittest.TestCase):
             for command in commands:
                 self.assertIn(f".SS {command}\n", page)
 
-    @unittest.skipUnless(shutil.which("man"), "there is no man")
+    @unittest.skipUnless(shutil.which("man"), "needs man, of Debian's man-db")
     def test_the_pages_are_read_without_a_warning(self):
         for name in PROGRAMS:
             ran = subprocess.run(["man", "--warnings", "-l", str(FOLDER / f"{name}.1")], capture_output=True, text=True,
-                                 check=False, env={**os.environ, "MANWIDTH": "100", "LC_ALL": "C.UTF-8"}, timeout=60)
+                                 check=False, env={**os.environ, "MANWIDTH": "100", "LC_ALL": "C.UTF-8"}, timeout=programs.PATIENCE)
             self.assertEqual((ran.returncode, ran.stderr), (0, ""))
             self.assertIn("EXIT STATUS", ran.stdout)
 

@@ -5,12 +5,12 @@ import shutil
 import subprocess
 import sys
 import tempfile
-import time
 import unittest
 import urllib.error
 import urllib.request
 
-from programs import PATIENCE, TOP, Server, submit_text
+from patience import PATIENCE, wait_for
+from programs import TOP, Server, submit_text
 from rows import code_of
 from test_clients import Client, result_of
 from test_local import Client as LocalClient
@@ -87,11 +87,11 @@ class Metrics(unittest.TestCase):
 
     def until(self, port, name, value):
         """The values, once one of them is this."""
-        until = time.monotonic() + PATIENCE
-        while (values := self.values(port)).get(name) != value:
-            self.assertLess(time.monotonic(), until, values)
-            time.sleep(0.01)
-        return values
+        def found():
+            values = self.values(port)
+            return values if values.get(name) == value else None
+
+        return wait_for(found, name)
 
     def write(self, process, *lines):
         process.stdin.write("".join(f"{line}\n" for line in lines))
@@ -153,8 +153,7 @@ class Metrics(unittest.TestCase):
                 client.ask(submit_text([(0, code_of(ADD))], 3, b""))
                 result_of(client, 1)
                 client.ask(submit_text([(0, code_of(ADD))], 2000, b""))
-                values = self.values(port)
-            self.assertEqual(values["telgovan_up"], 1)
+                values = self.until(port, "telgovan_up", 1)
             self.assertEqual(values["telgovan_server_connections_total"], 2)
             self.assertEqual(values["telgovan_server_jobs_total"], 1)
             self.assertEqual(values["telgovan_server_jobs_over_total"], 1)
@@ -164,7 +163,7 @@ class Metrics(unittest.TestCase):
             self.assertEqual(gone["telgovan_up"], 0)
             self.assertEqual([name for name in gone if "server" in name], [])
 
-    @unittest.skipUnless(shutil.which("promtool"), "there is no promtool")
+    @unittest.skipUnless(shutil.which("promtool"), "needs promtool, of Debian's prometheus")
     def test_promtool(self):
         process, port = self.start()
         self.write(process, *LINES)

@@ -56,8 +56,8 @@ def ran(*words):
     return done.returncode, done.stdout.decode(), done.stderr.decode()
 
 
-@unittest.skipUnless(CC, "there is no C compiler with libpcap")
-@unittest.skipUnless(TCPDUMP, "there is no tcpdump")
+@unittest.skipUnless(CC, "needs Debian's gcc or clang, and libpcap-dev")
+@unittest.skipUnless(TCPDUMP, "needs Debian's tcpdump")
 class Captures(unittest.TestCase):
     @classmethod
     def setUpClass(cls):

@@ -11,10 +11,8 @@ import unittest
 import test_jobs
 from jobs import Job, Program
 from machine import Pointer
-from programs import BPFJOBS, TOP, disassemble, job_text
+from programs import BPFJOBS, PATIENCE, TOP, disassemble, job_text
 from rows import memory_of, programs_of, rows, schedule_of
-
-PATIENCE = 60
 
 
 def ran(words, given):

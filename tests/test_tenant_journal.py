@@ -16,8 +16,11 @@ import unittest
 
 from journal_load import DoorLoads, good_jobs
 from journals import TenantKeeper, book_of, payloads_of, read, starts_of, traced
-from programs import IS_SLOW, PATIENCE, assemble, submit_text
-from test_journal import grant, open_job, submit
+from patience import PATIENCE
+from programs import IS_SLOW, assemble
+from test_clients import is_open
+from test_journal import Anew, grant, submit
+from trees import comparable
 
 NO_REQUEST = {"code": 73, "ok": False}
 NO_TENANT = {"code": 74, "ok": False}
@@ -35,7 +38,7 @@ def result(job):
     return {"op": "result", "job": job}
 
 
-class Room(unittest.TestCase):
+class Room(Anew, unittest.TestCase):
     """A folder with the journals and the doors of a server."""
 
     TENANTS = ("alice", "bob")
@@ -145,25 +148,27 @@ class Kept(Room):
             self.assertEqual(self.connect(tenant).ask(account(tenant))["spent"], 3)
 
     def test_open_jobs_begin_anew_each_at_its_own_desk(self):
-        programs, credit = open_job()
-        self.server.start()
-        for tenant in self.TENANTS:
-            self.grant(tenant, credit + 10)
-            long = json.loads(submit_text(programs, credit, b"", tenant=tenant))
-            client = self.connect(tenant)
-            self.assertEqual(client.ask(long), {"job": 1, "ok": True})
-            self.assertEqual(client.ask(submit(tenant=tenant)), {"job": 2, "ok": True})
-            self.assertEqual(client.ask(result(1)), {"code": 77, "ok": False})
-        self.again()
-        reports = []
-        for tenant in self.TENANTS:
-            client = self.connect(tenant)
-            first, second = json.loads(client.over(1)), json.loads(client.over(2))
-            self.assertEqual((first["spent"] + first["returned"], second["spent"]), (credit, 3))
-            told = client.ask(account(tenant))
-            self.assertEqual((told["open"], told["spent"]), (0, first["spent"] + 3))
-            reports.append(first)
-        self.assertEqual(reports[0], reports[1])
+        def check(long, credit):
+            self.server.start()
+            for tenant in self.TENANTS:
+                self.grant(tenant, credit + 10)
+                client = self.connect(tenant)
+                self.assertEqual(client.ask({**long, "tenant": tenant}), {"job": 1, "ok": True})
+                self.assertEqual(client.ask(submit(tenant=tenant)), {"job": 2, "ok": True})
+            self.again()
+            were_open = all(is_open(self.connect(tenant), 1) for tenant in self.TENANTS)
+            reports = []
+            for tenant in self.TENANTS:
+                client = self.connect(tenant)
+                first, second = json.loads(client.over(1)), json.loads(client.over(2))
+                self.assertEqual((first["spent"] + first["returned"], second["spent"]), (credit, 3))
+                told = client.ask(account(tenant))
+                self.assertEqual((told["open"], told["spent"]), (0, first["spent"] + 3))
+                reports.append(comparable(first))
+            self.assertEqual(reports[0], reports[1])
+            return were_open
+
+        self.beside_a_long_job(check)
 
     def test_forgetting(self):
         """Each desk keeps so many reports, and has forgotten the others behind a restart, too."""
@@ -393,7 +398,7 @@ class Failing(Room):
         self.assertEqual(self.connect("bob").ask(account("bob"))["granted"], 5)
 
 
-@unittest.skipUnless(shutil.which("strace"), "there is no strace")
+@unittest.skipUnless(shutil.which("strace"), "needs Debian's strace")
 class Synced(Room):
     """Each reply at a door is written behind the sync of its own desk's records, and waits for no other's."""
 
@@ -474,7 +479,7 @@ class Kills(Room):
         good = good_jobs(assemble, 5)
         doors = DoorLoads(self.server, 11, good, {"all": 2, "alice": 1, "bob": 1})
         for _ in range(5 if IS_SLOW else 10):
-            doors.round(0.3)
+            doors.round(longest=150)
         doors.audit_all()
         self.assertEqual(doors.wrong(), [])
         for load in doors.loads:

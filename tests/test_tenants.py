@@ -4,17 +4,16 @@ import contextlib
 import json
 import os
 import random
-import socket
 import subprocess
 import tempfile
 import threading
-import time
 import unittest
 
 from journals import Raw
-from programs import BPFJOBS, IS_SLOW, PATIENCE, assemble, frame, free_port, is_read, job_text, submit_text
+from patience import PATIENCE, wait_for
+from programs import BPFJOBS, IS_SLOW, Server, assemble, frame, job_text, submit_text
 from rows import code_of
-from test_clients import long_job
+from test_clients import beside_a_long_job, is_open, long_job
 from test_local import told
 from test_log import told as told_of
 from trees import Planter, comparable
@@ -499,9 +498,8 @@ class Listings(Room):
         """With no other request between."""
         _, (alice,) = self.begin("alice")
         alice.ask(unnamed_submit())
-        until = time.monotonic() + PATIENCE
-        while alice.ask({"op": "jobs"})["jobs"] == [{"job": 1, "state": "open"}]:
-            self.assertLess(time.monotonic(), until)
+        is_listed = [{"job": 1, "state": "open"}]
+        wait_for(lambda: alice.ask({"op": "jobs"})["jobs"] != is_listed, "a job's end")
         self.check(alice, 1, [(1, self.OVER)])
 
     def test_at_the_other_sockets(self):
@@ -623,11 +621,11 @@ class OpenJobs(Room):
 
     TOO_MANY = b'{"code":81,"ok":false}'
 
-    def begin(self, *words):
-        """A server of alice and bob, each with credit for long jobs, and a connection to each of its sockets."""
-        process = self.start("--clients", 8, "--sessions", 100, "--workers", 2, "--grants", self.path("grants"), *words)
-        granter, *others = (self.connect(process, name) for name in ("grants", "alice", "bob", "all"))
-        self.programs, self.credit = long_job()
+    def begin(self, *words, long=None):
+        """A server of alice and bob, each with credit for long jobs, and a connection to each socket."""
+        self.process = self.start("--clients", 8, "--sessions", 100, "--workers", 2, "--grants", self.path("grants"), *words)
+        granter, *others = (self.connect(self.process, name) for name in ("grants", "alice", "bob", "all"))
+        self.programs, self.credit = long or long_job()
         for tenant in ("alice", "bob", "carol"):
             granter.ask(grant(tenant, 2 * self.credit + 1000))
         return others
@@ -656,9 +654,22 @@ class OpenJobs(Room):
         # another's is taken beside it, and everybody else's
         self.check_room(bob, "bob", 1)
         self.check_room(everybody, "carol", 1)
-        # a job that is over counts no more
-        self.assertTrue(json.loads(alice.over(1))["ok"])
-        self.check_room(alice, "alice", 3)
+
+    def test_a_job_that_is_over_counts_no_more(self):
+        def check(*long):
+            alice, *_ = self.begin("--tenant-jobs", 1, *self.words("alice", "bob"), long=long)
+            self.submit_long(alice, "alice", 1)
+            self.assertEqual(alice.ask(submit("alice")), {"job": 2, "ok": True})
+            was_open = is_open(alice, 1)
+            if was_open:
+                self.assertEqual(alice.told({"op": "result", "job": 2}), self.TOO_MANY)
+                self.assertTrue(json.loads(alice.over(1))["ok"])
+                self.check_room(alice, "alice", 3)
+            self.process.kill()
+            self.process.wait()
+            return was_open
+
+        beside_a_long_job(check)
 
     def test_everybody_else_counts_as_one(self):
         alice, _, everybody = self.begin("--tenant-jobs", 1, *self.words("alice", "bob"))
@@ -822,11 +833,10 @@ class Shares(Room):
         for _ in range(10):
             self.assertFalse(self.is_served(process, "alice"))
             for name in ("bob", "grants", "all"):
-                self.assertTrue(self.is_served(process, name))
+                # its last connection may hold a place for a moment
+                wait_for(lambda: self.is_served(process, name), "a place of another socket")
         held.pop().stream.close()
-        until = time.monotonic() + PATIENCE
-        while not self.is_served(process, "alice"):
-            self.assertLess(time.monotonic(), until)
+        wait_for(lambda: self.is_served(process, "alice"), "room for a connection more")
         self.assertEqual(held[0].ask(account("x")), NO_TENANT)
 
     def test_a_socket_may_have_all_places_where_they_are_few(self):
@@ -929,24 +939,11 @@ class Ends(Room):
 
     def test_a_server_without_tenants_is_as_ever(self):
         """By a port too: jobs of all tenants count together, and anybody asks for them."""
-        port = free_port()
-        process = subprocess.Popen([BPFJOBS, "serve", "--port", str(port), "--sessions", "1"], stdout=subprocess.DEVNULL)
-        self.addCleanup(process.wait)
-        self.addCleanup(process.kill)
-        until = time.monotonic() + PATIENCE
-        while True:
-            try:
-                stream = socket.create_connection(("127.0.0.1", port), timeout=PATIENCE)
-                break
-            except ConnectionRefusedError:
-                self.assertLess(time.monotonic(), until)
-                time.sleep(0.001)
-        with stream:
+        with Server(sessions=1) as server:
             requests = [grant("a"), submit("a"), grant("b"), submit("b"), account("c")]
-            for request, wanted in zip(requests, [told(1000, 1000), {"job": 1, "ok": True}, told(1000, 1000), {"job": 2, "ok": True}, NO_TENANT]):
-                stream.sendall(frame(request if isinstance(request, str) else json.dumps(request)))
-                self.assertEqual(json.loads(is_read(stream, int.from_bytes(is_read(stream, 4), "big"))), wanted)
-        self.assertEqual(process.wait(PATIENCE), 0)
+            wanted = [told(1000, 1000), {"job": 1, "ok": True}, told(1000, 1000), {"job": 2, "ok": True}, NO_TENANT]
+            self.assertEqual(server.ask(*requests), wanted)
+            self.assertEqual(server.status(), 0)
 
     def test_the_log(self):
         """A tenant's connection is told as one of a tenant, and a job as its connection's. A grant is told with the name that stands in the words, and no other line has one."""
@@ -972,21 +969,28 @@ class Ends(Room):
 
     def test_each_tenant_has_its_turn(self):
         """One worker, kept busy while a tenant submits many jobs and another one: that one waits for one of the many, not for all."""
-        words = ("--workers", 1, "--clients", 2, "--sessions", 3, "--grants", self.path("grants"), *self.words("alice", "bob"))
-        process = self.start("--log", *words, stderr=subprocess.PIPE)
-        programs, credit = long_job()
-        with self.connect(process, "grants") as granter:
-            granter.ask(grant("alice", credit + 1000))
-            granter.ask(grant("bob"))
-        with self.connect(process, "alice") as alice, self.connect(process, "bob") as bob:
-            self.assertEqual(alice.ask(submit_text(programs, credit, b"", tenant="alice")), {"job": 1, "ok": True})
-            for job in range(2, 51):
-                self.assertEqual(alice.ask(submit("alice")), {"job": job, "ok": True})
-            self.assertEqual(bob.ask(submit("bob")), {"job": 1, "ok": True})
-            bob.over(1)
-            alice.over(50)
-        text = process.communicate(timeout=PATIENCE)[1].decode()
-        lines = [json.loads(line) for line in text.splitlines()]
+        def check(programs, credit):
+            words = ("--workers", 1, "--clients", 2, "--sessions", 3, "--grants", self.path("grants"), *self.words("alice", "bob"))
+            process = self.start("--log", *words, stderr=subprocess.PIPE)
+            with self.connect(process, "grants") as granter:
+                granter.ask(grant("alice", credit + 1000))
+                granter.ask(grant("bob"))
+            with self.connect(process, "alice") as alice, self.connect(process, "bob") as bob:
+                self.assertEqual(alice.ask(submit_text(programs, credit, b"", tenant="alice")), {"job": 1, "ok": True})
+                for job in range(2, 51):
+                    self.assertEqual(alice.ask(submit("alice")), {"job": job, "ok": True})
+                self.assertEqual(bob.ask(submit("bob")), {"job": 1, "ok": True})
+                was_open = is_open(alice, 1)
+                bob.over(1)
+                alice.over(50)
+            text = process.communicate(timeout=PATIENCE)[1].decode()
+            if was_open:
+                self.check_turns([json.loads(line) for line in text.splitlines()])
+            return was_open
+
+        beside_a_long_job(check)
+
+    def check_turns(self, lines):
         for event in ("started", "ended"):
             jobs = [line["job"] for line in told_of(lines, event)]
             self.assertIn(1002, jobs[:3], event)

@@ -1,7 +1,7 @@
 """The page, in a browser: what it tells, its address, and what it says of random programs beside the library.
 
-It wants a Chromium or a Firefox (TELGOVAN_BROWSER), and the page that web/build makes, in TELGOVAN_PAGE. TELGOVAN_PICTURES names a folder
-for a picture of each state. `test_web_jobs` has the view of a job."""
+It wants a Chromium or a Firefox (TELGOVAN_BROWSER). The page is docs/try.html, or the one that TELGOVAN_PAGE
+names. TELGOVAN_PICTURES names a folder for a picture of each state. `test_web_jobs` has the view of a job."""
 
 import ctypes
 import json
@@ -14,24 +14,30 @@ from pathlib import Path
 import browsers
 from test_graphs import modelled
 
-PAGE = os.environ.get("TELGOVAN_PAGE", "")
 PICTURES = os.environ.get("TELGOVAN_PICTURES", "")
 PROGRAMS = int(os.environ.get("TELGOVAN_PROGRAMS", "2000"))
 BROWSER = browsers.chosen()
-IS_THERE = bool(PAGE) and bool(BROWSER)
 CTRL, SHIFT = 2, 8
 WIDE, NARROW = (1280, 900), (360, 740)
 
 TOP = Path(__file__).resolve().parent.parent
+PAGE = Path(os.environ.get("TELGOVAN_PAGE") or TOP / "docs/try.html")
 
 
-@unittest.skipUnless(IS_THERE, "there is no page or no such browser")
+# A program of 4,096 steps, and a way along them, forth and back.
+LONG_SOURCE = "mov64 r0, 0\n" + "add64 r0, 1\n" * 4094 + "exit\n"
+LONG_WAY = """for (let n = 0; n < 100; n++) go_to(steps.at + 1);
+    go_to(4096); go_to(0); go_to(2000);
+    for (let n = 0; n < 100; n++) go_to(steps.at - 1);"""
+
+
+@unittest.skipUnless(BROWSER, "needs Debian's chromium or firefox-esr")
 class InBrowser(unittest.TestCase):
     @classmethod
     def setUpClass(cls):
         cls.tab = browsers.opened()
         cls.addClassCleanup(cls.tab.close)
-        cls.address = Path(PAGE).resolve().as_uri()
+        cls.address = PAGE.resolve().as_uri()
 
     def setUp(self):
         self.tab.size(*WIDE)
@@ -129,10 +135,9 @@ class Verdicts(InBrowser):
         self.picture("garbage")
 
     def test_a_long_program(self):
-        source = "mov64 r0, 0\n" + "add64 r0, 1\n" * 4094 + "exit\n"
-        self.tab.evaluate(f"show({json.dumps(source)}, {{}}); do_run()")
+        self.tab.evaluate(f"show({json.dumps(LONG_SOURCE)}, {{}}); do_run()")
         self.assertEqual(self.facts()["R0"], "4094 (0xffe)")
-        self.tab.evaluate(f"show({json.dumps('mov64 r0, 0' + chr(10) + source)}, {{}}); do_verify()")
+        self.tab.evaluate(f"show({json.dumps('mov64 r0, 0' + chr(10) + LONG_SOURCE)}, {{}}); do_verify()")
         self.assertTrue(self.text("verdict").startswith("refused 3"), self.text("verdict"))
 
     def test_numbers_out_of_range(self):
@@ -336,14 +341,9 @@ class Steps(InBrowser):
         self.agree(self.shown(), self.states()[7])
 
     def test_a_long_run(self):
-        source = "mov64 r0, 0\n" + "add64 r0, 1\n" * 4094 + "exit\n"
-        self.tab.evaluate(f"show({json.dumps(source)}, {{}}); do_run()")
-        spent = """(() => { const began = performance.now();
-            for (let n = 0; n < 100; n++) go_to(steps.at + 1);
-            go_to(4096); go_to(0); go_to(2000);
-            for (let n = 0; n < 100; n++) go_to(steps.at - 1);
-            return performance.now() - began; })()"""
-        self.assertLess(self.tab.evaluate(spent), 5000)
+        """`.ci/in_time.py page` tells how long its way takes."""
+        self.tab.evaluate(f"show({json.dumps(LONG_SOURCE)}, {{}}); do_run()")
+        self.tab.evaluate(LONG_WAY)
         self.assertEqual(self.shown()[2][0], "1899 (0x76b)")
         self.picture("long_run")
 
