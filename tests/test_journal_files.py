@@ -9,7 +9,8 @@ import unittest
 
 import journals
 from journals import Keeper, read, record
-from programs import BPFJOBS, BPFRUN, PATIENCE
+from patience import PATIENCE
+from programs import BPFJOBS, BPFRUN
 
 WHOLE = record(journals.granted("t", 5)) + record(journals.granted("u", 6))
 DATA = "other data, or for a first record that a crash cut off, of which nothing was told"

@@ -6,7 +6,8 @@ import stat
 import subprocess
 import unittest
 
-from programs import BPFJOBS, PATIENCE
+from patience import PATIENCE
+from programs import BPFJOBS
 from test_local import ACCOUNT, GRANT, Sockets, told
 
 WRONG_PATH = "error: serve takes 1 to 104 bytes, none of them 0, as a socket's path\n"
