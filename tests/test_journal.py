@@ -458,8 +458,11 @@ class Failing(Room):
         reader.join(PATIENCE)
         lines = [line.decode().rstrip("\n") for line in read]
         self.assertIn(self.LINE.format(self.server.journal).rstrip("\n"), lines)
-        closed = [json.loads(line) for line in lines if '"closed"' in line]
-        self.assertEqual([line["code"] for line in closed], [84])
+        events = [json.loads(line) for line in lines if line.startswith("{")]
+        closed = [event["code"] for event in events if event["event"] == "closed"]
+        # a busy machine may lose lines: at its end a server waits for them for two seconds
+        is_whole = events[-1]["event"] == "stopping" and not any("lost" in event for event in events)
+        self.assertIn(closed, ([84],) if is_whole else ([84], []))
 
 
 @unittest.skipUnless(shutil.which("strace"), "needs Debian's strace")
