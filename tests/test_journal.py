@@ -577,7 +577,7 @@ class Kills(Room):
         load = Load(self.room, seed, good_jobs(assemble, seed), **how)
         self.addCleanup(load.end)
         for _ in range(rounds):
-            load.round(longest=400)
+            load.round(longest=200)
         self.assertEqual(load.wrong, [])
         load.audit_all()
         self.assertEqual(load.wrong, [])
