@@ -4,6 +4,7 @@ import base64
 import fcntl
 import json
 import os
+import select
 import shutil
 import subprocess
 import tempfile
@@ -66,6 +67,8 @@ class Browser:
     def heard(self):
         """The next message of the browser."""
         while b"\0" not in self.pieces:
+            if not select.select([self.of], [], [], PATIENCE)[0]:
+                raise Failed("the browser says nothing")
             piece = os.read(self.of, 1 << 20)
             if not piece:
                 raise Failed("the browser is gone")

@@ -46,7 +46,7 @@ class Browser:
             stdout=subprocess.DEVNULL, stderr=subprocess.DEVNULL, env={**os.environ, "HOME": self.profile})
         self.stream = self.connected()
         self.heard()
-        self.call("WebDriver:NewSession", capabilities={"alwaysMatch": {"timeouts": {"script": 600_000}}})
+        self.call("WebDriver:NewSession", capabilities={"alwaysMatch": {"timeouts": {"script": 1000 * PATIENCE}}})
         self.call("WebDriver:Navigate", url="about:blank")
 
     def connected(self):
@@ -55,7 +55,7 @@ class Browser:
         while True:
             try:
                 with open(os.path.join(self.profile, "MarionetteActivePort"), encoding="utf-8") as file:
-                    return socket.create_connection(("127.0.0.1", int(file.read())))
+                    return socket.create_connection(("127.0.0.1", int(file.read())), timeout=PATIENCE)
             except (OSError, ValueError):
                 if time.monotonic() > until or self.process.poll() is not None:
                     raise Failed("the browser doesn't listen") from None

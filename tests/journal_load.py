@@ -219,7 +219,7 @@ def after_replies(loads):
 
 def keep_busy(loads, is_over, kill):
     """Has the tenants of these loads at work until something is over, and kills their server."""
-    is_late = after(PATIENCE)
+    is_late, told = after(PATIENCE), sum(load.told for load in loads)
     for load in loads:
         load.floor = max(load.numbers, default=0)
         load.followed.is_running = True
@@ -231,7 +231,8 @@ def keep_busy(loads, is_over, kill):
             load.followed.look()
         time.sleep(0.002)
         if is_late():
-            loads[0].wrong.append("its tenants waited in vain for the end of a round")
+            more = sum(load.told for load in loads) - told
+            loads[0].wrong.append(f"a round has no end: {more} replies, {threading.active_count()} threads")
             break
     kill()
     for load in loads:

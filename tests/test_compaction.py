@@ -227,7 +227,7 @@ class Compacted(Long):
                 load = Load(folder, seed, good_jobs(assemble, seed), clients=clients, keep=keep)
                 self.addCleanup(load.end)
                 for _ in range(6 if IS_SLOW else 12):
-                    load.round(longest=400)
+                    load.round(longest=200)
                 load.audit_all()
                 self.assertEqual(load.wrong, [])
                 self.assertGreater(load.compactions, 0)

@@ -462,8 +462,11 @@ class Failing(Room):
         reader.join(PATIENCE)
         lines = [line.decode().rstrip("\n") for line in read]
         self.assertIn(self.LINE.format(self.server.journal).rstrip("\n"), lines)
-        closed = [json.loads(line) for line in lines if '"closed"' in line]
-        self.assertEqual([line["code"] for line in closed], [84])
+        events = [json.loads(line) for line in lines if line.startswith("{")]
+        closed = [event["code"] for event in events if event["event"] == "closed"]
+        # a busy machine may lose lines: at its end a server waits for them for two seconds
+        is_whole = any(event["event"] == "stopping" for event in events) and not any("lost" in event for event in events)
+        self.assertIn(closed, ([84],) if is_whole else ([84], []))
 
 
 @unittest.skipUnless(shutil.which("strace"), "needs Debian's strace")
@@ -578,7 +581,7 @@ class Kills(Room):
         load = Load(self.room, seed, good_jobs(assemble, seed), **how)
         self.addCleanup(load.end)
         for _ in range(rounds):
-            load.round(longest=400)
+            load.round(longest=200)
         self.assertEqual(load.wrong, [])
         load.audit_all()
         self.assertEqual(load.wrong, [])

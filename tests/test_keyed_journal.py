@@ -82,6 +82,7 @@ class Kept(Room):
         self.taken(client, keyed("c"), 4)
         client = self.restarted()
         self.assertEqual([client.over(number) for number in (1, 2, 3)], results)
+        client.over(4)
         self.check_nothing_taken(client, map(asked_by, "abc"), (1, 3, 4))
 
     def test_a_lost_reply(self):
