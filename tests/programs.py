@@ -14,9 +14,7 @@ from patience import PATIENCE
 TOP = os.path.dirname(os.path.dirname(os.path.abspath(__file__)))
 BPFJOBS = os.environ.get("BPFJOBS", os.path.join(TOP, "crates/bpfjobs/out/bpfjobs"))
 BPFRUN = os.environ.get("BPFRUN", os.path.join(TOP, "crates/bpfrun/out/bpfrun"))
-# Whether the programs take so long that the longest jobs have to be shorter.
-IS_SLOW = "TELGOVAN_SLOW" in os.environ
-# Whether they are unproved, and say so (./try test).
+# Whether the programs are unproved, and say so (./try test).
 IS_UNPROVED = "TELGOVAN_UNPROVED" in os.environ
 WORDS = "unproved, with run-time tests"
 SHORT = 10_000

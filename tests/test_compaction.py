@@ -11,7 +11,7 @@ import unittest
 from journal_load import Load, good_jobs
 from journals import book_of, payloads_of, read
 from patience import PATIENCE, wait_for
-from programs import BPFJOBS, IS_SLOW, assemble
+from programs import BPFJOBS, assemble
 from test_clients import is_open
 from test_journal import ACCOUNT, Room, grant, submit
 from trees import comparable
@@ -169,7 +169,7 @@ class Compacted(Long):
 
     def test_servers_that_start_at_once(self):
         """One of them goes on, whichever it is, and all others are refused: none works on a file without a name."""
-        for _ in range(3 if IS_SLOW else 10):
+        for _ in range(10):
             told = self.fill()
             others = [self.keeper() for _ in range(6)]
             for number, other in enumerate(others):
@@ -226,7 +226,7 @@ class Compacted(Long):
                 folder = self.folder(f"kills-{seed}")
                 load = Load(folder, seed, good_jobs(assemble, seed), clients=clients, keep=keep)
                 self.addCleanup(load.end)
-                for _ in range(6 if IS_SLOW else 12):
+                for _ in range(12):
                     load.round(longest=200)
                 load.audit_all()
                 self.assertEqual(load.wrong, [])

@@ -15,7 +15,7 @@ import time
 import unittest
 
 from patience import PATIENCE, wait_for
-from programs import BPFJOBS, IS_SLOW, TOP, assemble, frame, is_read, submit_text
+from programs import BPFJOBS, TOP, assemble, frame, is_read, submit_text
 from test_clients import ASKED, by_timeouts, within
 from test_server import texts_of
 
@@ -334,7 +334,7 @@ class Front(unittest.TestCase):
     def test_large_frames_and_a_slow_reader(self):
         """A frame of a megabyte, and more replies to one who reads late than the system holds."""
         self.front()
-        buffer, asked = bytes(range(256)) * 256, 80 if IS_SLOW else 400
+        buffer, asked = bytes(range(256)) * 256, 400
         with self.client("alice") as client:
             told = client.ask(json.loads(submit_text([(0, ADD)], 3, buffer, tenant="alice")))
             self.assertEqual(client.wait(told["job"])["buffer"], buffer.hex())

@@ -17,7 +17,7 @@ import unittest
 import journals
 from journal_load import Load, good_jobs
 from journals import Keeper, book_of, payloads_of, read, record, starts_of, traced
-from programs import BPFJOBS, IS_SLOW, PATIENCE, assemble, submit_text
+from programs import BPFJOBS, PATIENCE, assemble, submit_text
 from rows import code_of
 from test_clients import beside_a_long_job, is_open
 from trees import comparable
@@ -342,7 +342,7 @@ class Damage(Room):
         data = self.small()
         starts = starts_of(data)
         bits = [(at, bit) for at in range(len(data)) for bit in range(8)]
-        picked = random.Random(7).sample(bits, 80 if IS_SLOW else 250)
+        picked = random.Random(7).sample(bits, 250)
         for at, bit in picked + [(start + part, 0) for start in starts[:-1] for part in range(HEAD)]:
             with self.subTest(at=at, bit=bit):
                 changed = bytearray(data)
@@ -588,10 +588,10 @@ class Kills(Room):
         self.assertGreater(load.told, rounds)
 
     def test_kills(self):
-        self.check_kills(1, 6 if IS_SLOW else 12, clients=4)
+        self.check_kills(1, 12, clients=4)
 
     def test_kills_of_one_client(self):
-        self.check_kills(2, 6 if IS_SLOW else 12, clients=1)
+        self.check_kills(2, 12, clients=1)
 
     def test_kills_of_many_clients(self):
-        self.check_kills(3, 3 if IS_SLOW else 8, clients=12, workers=4)
+        self.check_kills(3, 8, clients=12, workers=4)

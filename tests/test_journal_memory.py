@@ -9,7 +9,7 @@ import tempfile
 import time
 import unittest
 
-from programs import IS_SLOW, PATIENCE, TOP
+from programs import PATIENCE, TOP
 from test_journal import ACCOUNT, Room, grant, submit
 
 NO_MEMORY = {"code": 99, "ok": False}
@@ -25,7 +25,7 @@ class Refused(Room):
     """One request for memory of a server is refused, in each run another one."""
 
     # By hand each: TELGOVAN_EACH=1.
-    STEP = 1 if "TELGOVAN_EACH" in os.environ else 37 if IS_SLOW else 11
+    STEP = 1 if "TELGOVAN_EACH" in os.environ else 11
 
     @classmethod
     def setUpClass(cls):

@@ -11,7 +11,7 @@ import time
 import journals
 from journals import change_of, payloads_of, record, starts_of
 from patience import PATIENCE, wait_for
-from programs import BPFJOBS, IS_SLOW
+from programs import BPFJOBS
 from test_journal import ADD, Room, grant, submit
 
 HALF = bytes.fromhex("b7000000010000009500000000000000")
@@ -333,8 +333,7 @@ class Ends(Told):
 
     def test_torn_at_each_byte(self):
         starts = starts_of(WHOLE)
-        step = 7 if IS_SLOW else 1
-        for cut in sorted({*range(0, len(WHOLE), step), *starts, *(start - 1 for start in starts[1:])}):
+        for cut in range(len(WHOLE)):
             with self.subTest(cut=cut):
                 self.check_whole(WHOLE[:cut], max(start for start in starts if start <= cut))
 
@@ -345,7 +344,7 @@ class Ends(Told):
     def test_single_flipped_bits(self):
         """In the last record a bit leaves a torn one, and ahead of another it is damage, as a server has it."""
         starts = starts_of(WHOLE)
-        picked = random.Random(5).sample([(at, bit) for at in range(len(WHOLE)) for bit in range(8)], 40 if IS_SLOW else 120)
+        picked = random.Random(5).sample([(at, bit) for at in range(len(WHOLE)) for bit in range(8)], 120)
         for at, bit in picked + [(start + part, 0) for start in starts[-3:-1] for part in range(journals.HEADER)]:
             with self.subTest(at=at, bit=bit):
                 changed = bytearray(WHOLE)

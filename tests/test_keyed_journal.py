@@ -12,7 +12,7 @@ import unittest
 import journals
 from journals import MOST_KEYS, Keeper, book_of, by_key, change_of, key_kept, payloads_of, record, starts_of, traced
 from patience import PATIENCE, wait_for
-from programs import BPFJOBS, IS_SLOW, submit_text
+from programs import BPFJOBS, submit_text
 from test_clients import is_open
 from test_journal import ADD, grant, submit
 from test_tenant_journal import Room as TenantRoom
@@ -218,7 +218,7 @@ class Kept(Room):
     def test_by_the_second(self):
         """With `--journal-sync interval` a job and its key may both be gone after a kill. An orderly end keeps them."""
         self.server.words += ["--journal-sync", "interval"]
-        for number in range(3 if IS_SLOW else 6):
+        for number in range(6):
             client = self.granted()
             key = f"k{number}"
             told = client.ask(keyed(key))
@@ -372,7 +372,7 @@ class Damage(Room):
         first = record(journals.granted("alice", 100)) + record(by_key(b"first", journals.submitted("alice", ADD, 3)))
         first += record(journals.failed(1, 82))
         last = record(by_key(b"last", journals.submitted("alice", ADD, 3)))
-        for cut in range(0, len(last) + 1, 5 if IS_SLOW else 1):
+        for cut in range(len(last) + 1):
             with self.subTest(cut=cut):
                 self.write(first + last[:cut])
                 is_there = cut == len(last)

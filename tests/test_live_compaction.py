@@ -15,7 +15,7 @@ from journal_following import Followed
 from journal_load import DoorLoads, Load, good_jobs, keep_busy
 from journals import book_of, kill_traced, payloads_of, read, record, starts_of
 from patience import PATIENCE, wait_for
-from programs import BPFJOBS, IS_SLOW, assemble, submit_text
+from programs import BPFJOBS, assemble, submit_text
 from test_clients import ASKED, is_open
 from test_journal import ACCOUNT, ADD, Room, grant, submit
 from test_keyed_journal import asked_by
@@ -146,7 +146,7 @@ class Compacted(Live):
     def test_again_and_again(self):
         """Each time that a journal has twice the bytes that it had behind the last one."""
         client, jobs = self.granted(), 1
-        for count in range(1, 3 if IS_SLOW else 6):
+        for count in range(1, 6):
             jobs = self.fill_up(client, jobs)
             self.assertEqual(len(self.server.compacted()), count)
         for _, old, new in self.server.compacted():

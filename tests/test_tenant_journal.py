@@ -17,7 +17,7 @@ import unittest
 from journal_load import DoorLoads, good_jobs
 from journals import TenantKeeper, book_of, payloads_of, read, starts_of, traced
 from patience import PATIENCE
-from programs import IS_SLOW, assemble
+from programs import assemble
 from test_clients import is_open
 from test_journal import Anew, grant, submit
 from trees import comparable
@@ -478,7 +478,7 @@ class Kills(Room):
     def test_kills(self):
         good = good_jobs(assemble, 5)
         doors = DoorLoads(self.server, 11, good, {"all": 2, "alice": 1, "bob": 1})
-        for _ in range(5 if IS_SLOW else 10):
+        for _ in range(10):
             doors.round(longest=150)
         doors.audit_all()
         self.assertEqual(doors.wrong(), [])

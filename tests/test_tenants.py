@@ -11,7 +11,7 @@ import unittest
 
 from journals import Raw
 from patience import PATIENCE, wait_for
-from programs import BPFJOBS, IS_SLOW, Server, assemble, frame, job_text, submit_text
+from programs import BPFJOBS, Server, assemble, frame, job_text, submit_text
 from rows import code_of
 from test_clients import beside_a_long_job, is_open, long_job
 from test_local import told
@@ -728,7 +728,7 @@ class Together(Room):
     def work(self, process, tenant, seed, wrong):
         """Submits jobs, whose results are those of the model under numbers from 1 on."""
         planter = Planter(seed, assemble)
-        trees = [planter.tree() for _ in range(4 if IS_SLOW else 20)]
+        trees = [planter.tree() for _ in range(20)]
         with self.connect(process, "grants") as granter:
             granter.ask(grant(tenant, sum(tree.credit for tree in trees)))
         with self.connect(process, tenant) as client:
@@ -753,7 +753,7 @@ class Together(Room):
     def dialog(self, client):
         """What an honest tenant asks, and what it is told, byte for byte."""
         replies = []
-        for number in range(1, 1 + (5 if IS_SLOW else 30)):
+        for number in range(1, 1 + (30)):
             buffer = random.Random(number).randbytes(8)
             for request in (account("alice"), submit("alice", 3 + number, buffer)):
                 replies.append(client.told(request))

@@ -7,7 +7,7 @@ import unittest
 from concurrent.futures import ThreadPoolExecutor
 
 import test_jobs
-from programs import IS_SLOW, Server, assemble, bpfjobs, job_text, submit_text, telgovan
+from programs import Server, assemble, bpfjobs, job_text, submit_text, telgovan
 from trees import Planter, comparable
 
 # How many trees there are: a sample, or as many as this variable says. 2,300 take a minute or two.
@@ -45,7 +45,7 @@ class Looks(unittest.TestCase):
     spent all of its credit."""
 
     # how many children the root and each of those has: enough that some looks come while they run
-    COUNT, TIMES, CLIENTS = 60 if IS_SLOW else 150, 5, 4
+    COUNT, TIMES, CLIENTS = 150, 5, 4
 
     def test_jobs_that_run_at_once(self):
         share = 22 * self.COUNT + 2

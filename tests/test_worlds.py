@@ -5,7 +5,7 @@ import random
 import unittest
 
 from jobs import Job, Program
-from programs import IS_SLOW, telgovan
+from programs import telgovan
 from rows import memory_of, programs_of, rows, schedule_of
 from test_steps import Steps, drawn_job, value_text
 
@@ -39,7 +39,7 @@ class Told(Steps):
 
 
 class Worlds(unittest.TestCase):
-    JOBS = 30 if IS_SLOW else 200
+    JOBS = 200
 
     def agree(self, programs, credit, buffer, schedule):
         """A world is at each step where the model is, and what is told of the steps is what the model does."""
