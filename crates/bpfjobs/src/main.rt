@@ -17,6 +17,7 @@ mod server_threads;
 mod serving;
 mod showing;
 mod socket_names;
+mod standard_files;
 mod tenant_file;
 mod torn_records;
 
@@ -30,6 +31,7 @@ use server_threads::handles_of;
 use serving::serve;
 use showing::{play_shown, run_shown};
 use socket_names::have_names_of_their_own;
+use standard_files::fill_gaps;
 use std::alloc::{AllocError, Global};
 use std::fs::Files;
 use std::process::ExitCode;
@@ -104,6 +106,9 @@ fn parts_of(
 // The threads beside a server are started here, where the runtime is of a type that may go to them.
 fn main(rt: HostRuntime) -> ExitCode {
     let alloc = rt.alloc();
+    let Ok(_filled) = fill_gaps(&rt, alloc) else {
+        return ExitCode::from(FAILED);
+    };
     let Ok(words) = words(&rt) else {
         return ExitCode::from(UNREAD);
     };

@@ -1,0 +1,32 @@
+//! Descriptors 0, 1 and 2, without which a process may be started.
+
+ghost use Rattle.std.specs.Prelude.{◌≤◌, IfOk, vec_len};
+
+use std::alloc::Global;
+use std::fs::{File, Files};
+use std::io;
+use std::os::fd::{AsRawFd, OwnedFd};
+
+// The descriptor of standard error, the last of the three.
+const STANDARD_ERROR: i32 = 2;
+
+/// Opens `/dev/null` in place of each of the three that is closed, and gives what it opened, to be held to
+/// the end of the process. Else the next file or connection would be standard error, and lines of the
+/// log would be written into it.
+pub fn fill_gaps<R: Files<File = File>>(rt: &R, alloc: Global) -> io::Result<Vec<OwnedFd>>
+    ensures { IfOk result (λ filled. vec_len filled ≤ 3) }
+{
+    let mut filled = Vec::new(alloc);
+    for _ in 0..3u32 {
+        let null = File::options()
+            .read(true)
+            .write(true)
+            .open(rt, "/dev/null")?;
+        let null = OwnedFd::from(null);
+        if null.as_raw_fd() > STANDARD_ERROR {
+            return Ok(filled);
+        }
+        filled.push(null)?;
+    }
+    Ok(filled)
+}
