@@ -10,6 +10,7 @@ from outcomes import TOO_LONG, Tally, loaded
 
 CLASSIC = 1 << 6
 EXPECTED_TO_FAIL = 1 << 1
+SOURCE = "linux-6.12"
 SLOT = 8
 MOST_SLOTS, BOUNDS = 4096, 8
 
@@ -116,15 +117,15 @@ def compare(tally, table, name, code, runs):
         tally.agree += 1
 
 
-def suite(fetches, source, kinds):
-    """The tests of these kinds: those of classic BPF, or the others."""
-    folder = sources.provide(source, fetches)
-    tally = Tally(f"`lib/test_bpf.c`, {kinds}", source.replace("linux-", "Linux "))
+def suite(title, is_classic):
+    """The tests of classic BPF, or the others."""
+    folder = sources.provide(SOURCE)
+    tally = Tally(title, SOURCE.replace("linux-", "Linux "))
     with tempfile.TemporaryDirectory(prefix="telgovan-") as room:
         table = shim(folder, room)
         for at in range(table.suite_count()):
             flags = table.suite_flags(at)
-            if bool(flags & CLASSIC) != (kinds == "classic"):
+            if bool(flags & CLASSIC) != is_classic:
                 continue
             if flags & EXPECTED_TO_FAIL:
                 tally.left_out["the kernel refuses it ahead of its conversion"] += 1
@@ -134,4 +135,12 @@ def suite(fetches, source, kinds):
                 tally.left_out[f"the kernel's conversion gives {error}"] += 1
             else:
                 compare(tally, table, table.suite_name(at).decode(), code, list(runs_of(table, at)))
-    return tally
+    return [tally]
+
+
+def suite_of_ebpf():
+    return suite("`lib/test_bpf.c`", False)
+
+
+def suite_of_classic():
+    return suite("the same, classic, converted", True)

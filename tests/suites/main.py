@@ -27,12 +27,12 @@ HEAD = "| Suite | Of | In the profile | Agree | Differ | Refused, by number | Le
 RULE = "|---|---|---|---|---|---|---|"
 
 
-def run(name, fetches):
+def run(name):
     """What a suite comes to, or why it is skipped."""
     try:
-        return SUITES[name](fetches), None
+        return SUITES[name](), None
     except sources.Missing as missing:
-        return None, str(missing)
+        return [], str(missing)
 
 
 def page_has(rows):
@@ -55,18 +55,17 @@ def main():
     if unknown := [name for name in names if name not in SUITES]:
         words.error(f"no such suite: {', '.join(unknown)}")
     if not given.there:
-        sources.provide_all()
+        sources.fetch_missing()
     rows, fails = [], False
     with ProcessPoolExecutor(given.at_once) as pool:
-        running = [(name, pool.submit(run, name, False)) for name in names]
-        for name, done in running:
-            tally, why = done.result()
-            if tally is None:
+        for name, done in [(name, pool.submit(run, name)) for name in names]:
+            tallies, why = done.result()
+            if why:
                 print(f"{name}: skipped: {why}", flush=True)
-                continue
-            print("\n".join(tally.lines()), flush=True)
-            rows.append(tally.row())
-            fails |= bool(tally.differences)
+            for tally in tallies:
+                print("\n".join(tally.lines()), flush=True)
+                rows.append(tally.row())
+                fails |= bool(tally.differences)
     print("\n".join(["", HEAD, RULE, *rows, ""]), flush=True)
     fails |= not page_has(rows)
     sys.exit(1 if fails else 0)

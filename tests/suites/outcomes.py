@@ -53,14 +53,18 @@ class Tally:
 
     def lines(self):
         """The suite in a line, and what stands behind its counts in a line each."""
-        parts = (f"{self.count} programs", f"{self.agree} agree", f"{len(self.differences)} differ")
+        differ = len(self.differences) + len(self.named)
+        parts = [f"{self.count} programs", f"{self.agree} agree", f"{differ} differ"]
+        parts += [f"{self.refused.total()} refused", f"{self.left_out.total()} left out"]
         yield f"{self.name}, {self.version}: {', '.join(parts)}"
+        if self.in_pieces:
+            yield f"    {self.in_pieces} of those that agree were too long, and ran in pieces"
         for number, times in sorted(self.refused.items()):
             yield f"    {times} refused by {number}: {RULES[number]}"
         for why, times in self.left_out.most_common():
             yield f"    {times} left out: {why}"
-        for name, why in self.named:
-            yield f"    {name} differs, as the page says: {why}"
+        for why, times in Counter(why for _, why in self.named).most_common():
+            yield f"    {times} differ as is known: {why}"
         for what in self.differences:
             yield f"    DIFFERS: {what}"
 

@@ -48,26 +48,27 @@ def sums():
     return listed
 
 
-def check(name):
-    """Looks whether each file of a source has its sum."""
+def provide(name):
+    """The folder of a source, each of whose files has to have its sum."""
     for path, wanted in sums()[name].items():
         file = CACHE / name / path
         if not file.exists():
             raise Missing(f"{name} is not in {CACHE}")
         if hashlib.sha256(file.read_bytes()).hexdigest() != wanted:
             raise Changed(f"{file} has another sum than tests/suites/sums.txt tells")
-
-
-def provide(name, fetches):
-    """The folder of a source, whose files are fetched where they aren't there and may be."""
-    try:
-        check(name)
-    except Missing:
-        if not fetches:
-            raise
-        fetch(name)
-        check(name)
     return CACHE / name
+
+
+def fetch_missing():
+    """Fetches the sources that aren't there."""
+    for name in SOURCES:
+        try:
+            provide(name)
+        except Missing:
+            try:
+                fetch(name)
+            except Missing as missing:
+                print(f"suites: {missing}", flush=True)
 
 
 # ---- Debian's packages, by its ordinary client with lists of our own

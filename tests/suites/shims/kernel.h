@@ -36,6 +36,8 @@ typedef int64_t s64;
 #define BIT(place) (1UL << (place))
 #define max(left, right) ((left) > (right) ? (left) : (right))
 #define min(left, right) ((left) < (right) ? (left) : (right))
+#define sizeof_field(type, field) sizeof(((type *)0)->field)
+#define offsetofend(type, field) (offsetof(type, field) + sizeof_field(type, field))
 #define ARRAY_SIZE(array) (sizeof(array) / sizeof(array)[0])
 #define BUILD_BUG_ON(wrong) ((void)sizeof(char[1 - 2 * !!(wrong)]))
 #define BUG_ON(wrong) do { if (wrong) abort(); } while (0)

@@ -11,7 +11,6 @@
 #define CONFIG_HAVE_EFFICIENT_UNALIGNED_ACCESS 1
 #define IS_BUILTIN(option) (option)
 #define ETH_P_IP 0x0800
-#define sizeof_field(type, field) sizeof(((type *)0)->field)
 
 /* A packet as the kernel's programs see it: numbers, but for two pointers that the profile hasn't. */
 struct net_device {
