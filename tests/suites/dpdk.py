@@ -6,6 +6,7 @@ import tempfile
 import sources
 from outcomes import Tally, loaded
 
+SOURCE = "dpdk-22.11"
 SLOT = 8
 SLICES = {
     "bpf_definitions.slice.h": ("lib/bpf/bpf_def.h", r"#ifndef _RTE_BPF_DEF_H_", None),
@@ -61,8 +62,8 @@ def compare(tally, table, at):
 
 
 def suite():
-    folder = sources.provide("dpdk-22.11")
-    tally = Tally("`app/test/test_bpf.c`", "DPDK 22.11")
+    folder = sources.provide(SOURCE)
+    tally = Tally("`app/test/test_bpf.c`", SOURCE.replace("dpdk-", "DPDK "))
     with tempfile.TemporaryDirectory(prefix="telgovan-") as room:
         table = shim(folder, room)
         for at in range(table.suite_count()):

@@ -16,12 +16,13 @@ import sources
 import texts
 import verifier
 
+# The suites by their names, each with its source.
 SUITES = {
-    "kernel": kernel.suite_of_ebpf,
-    "classic": kernel.suite_of_classic,
-    "dpdk": dpdk.suite,
-    "verifier": verifier.suite,
-    "text": texts.suite,
+    "kernel": (kernel.suite_of_ebpf, kernel.SOURCE),
+    "classic": (kernel.suite_of_classic, kernel.SOURCE),
+    "dpdk": (dpdk.suite, dpdk.SOURCE),
+    "verifier": (verifier.suite, verifier.SOURCE),
+    "text": (texts.suite, texts.SOURCE),
 }
 HEAD = "| Suite | Of | In the profile | Agree | Differ | Refused, by number | Left out |"
 RULE = "|---|---|---|---|---|---|---|"
@@ -30,7 +31,7 @@ RULE = "|---|---|---|---|---|---|---|"
 def run(name):
     """What a suite comes to, or why it is skipped."""
     try:
-        return SUITES[name](), None
+        return SUITES[name][0](), None
     except sources.Missing as missing:
         return [], str(missing)
 
@@ -55,7 +56,7 @@ def main():
     if unknown := [name for name in names if name not in SUITES]:
         words.error(f"no such suite: {', '.join(unknown)}")
     if not given.there:
-        sources.fetch_missing()
+        sources.fetch_missing(dict.fromkeys(SUITES[name][1] for name in names))
     rows, fails = [], False
     with ProcessPoolExecutor(given.at_once) as pool:
         for name, done in [(name, pool.submit(run, name)) for name in names]:

@@ -44,7 +44,7 @@ class Tally:
         self.name, self.version = name, version
         self.agree, self.runs, self.in_pieces = 0, 0, 0
         self.refused, self.left_out = Counter(), Counter()
-        self.differences, self.named = [], []
+        self.differences, self.named, self.notes = [], [], []
 
     @property
     def count(self):
@@ -57,6 +57,8 @@ class Tally:
         parts = [f"{self.count} programs", f"{self.agree} agree", f"{differ} differ"]
         parts += [f"{self.refused.total()} refused", f"{self.left_out.total()} left out"]
         yield f"{self.name}, {self.version}: {', '.join(parts)}"
+        for note in self.notes:
+            yield f"    {note}"
         if self.in_pieces:
             yield f"    {self.in_pieces} of those that agree were too long, and ran in pieces"
         for number, times in sorted(self.refused.items()):

@@ -59,25 +59,33 @@ def provide(name):
     return CACHE / name
 
 
-def fetch_missing():
-    """Fetches the sources that aren't there."""
-    for name in SOURCES:
+def fetch_missing(names):
+    """Fetches the sources of these that aren't there. Where that can't be done, it is told."""
+    missing = []
+    for name in names:
         try:
             provide(name)
         except Missing:
-            try:
-                fetch(name)
-            except Missing as missing:
-                print(f"suites: {missing}", flush=True)
+            missing.append(name)
+    if not missing:
+        return
+    CACHE.mkdir(parents=True, exist_ok=True)
+    with tempfile.TemporaryDirectory(dir=CACHE, prefix="fetching-") as room:
+        try:
+            apt(Path(room), "update")
+            for name in missing:
+                fetch(name, Path(room) / name)
+        except Missing as why:
+            print(f"suites: {why}", flush=True)
 
 
 # ---- Debian's packages, by its ordinary client with lists of our own
 
 
-def apt(room, *words):
+def apt(room, *words, folder=None):
     """Runs apt-get with the lists in the room alone. The lists of this machine stay as they are."""
-    for folder in ("lists/partial", "archives/partial"):
-        (room / folder).mkdir(parents=True, exist_ok=True)
+    for inner in ("lists/partial", "archives/partial"):
+        (room / inner).mkdir(parents=True, exist_ok=True)
     lines = (f"{kind} [signed-by={KEYS}] {MIRROR} {suite} main\n" for kind, suite in LISTS)
     (room / "sources.list").write_text("".join(lines), encoding="ascii")
     own = {
@@ -88,11 +96,12 @@ def apt(room, *words):
         "APT::Sandbox::User": "",
     }
     given = [word for key, value in own.items() for word in ("-o", f"{key}={value}")]
-    ran = subprocess.run(
-        ["apt-get", *given, *words], cwd=room, text=True, check=False,
-        stdin=subprocess.DEVNULL, stdout=subprocess.PIPE, stderr=subprocess.STDOUT,
-    )
-    if ran.returncode:
+    output = {"stdout": subprocess.PIPE, "stderr": subprocess.STDOUT, "text": True}
+    try:
+        ran = subprocess.run(["apt-get", *given, *words], cwd=folder or room, check=False, **output)
+    except FileNotFoundError:
+        raise Missing("there is no apt-get") from None
+    if ran.returncode or re.search("^(W|E): ", ran.stdout, re.MULTILINE):
         last = (ran.stdout.strip().splitlines() or ["nothing was told"])[-1]
         raise Missing(f"apt-get {' '.join(words)}: {last}")
 
@@ -110,24 +119,19 @@ def opened(room, source):
     return next((room / "usr/src").glob("*.tar.xz"))
 
 
-def fetch(name):
+def fetch(name, room):
     """Fetches a package, and keeps the files of it that sums.txt names."""
     source = SOURCES[name]
-    if not shutil.which("apt-get") or not shutil.which("dpkg-deb"):
-        raise Missing(f"the package {source.package} is fetched by apt-get, which isn't there")
-    CACHE.mkdir(parents=True, exist_ok=True)
-    with tempfile.TemporaryDirectory(dir=CACHE, prefix="fetching-") as folder:
-        room = Path(folder)
-        print(f"suites: fetches Debian's package {source.package}", flush=True)
-        apt(room, "update")
-        apt(room, *source.words, source.package)
-        (room / "files").mkdir()
-        paths = [f"*/{path}" for path in sums()[name]]
-        words = ["tar", "-xJf", opened(room, source), "-C", room / "files", "--strip-components=1"]
-        subprocess.run([*words, "--no-wildcards-match-slash", "--wildcards", *paths], check=True)
-        with contextlib.suppress(FileNotFoundError):
-            shutil.rmtree(CACHE / name)
-        os.rename(room / "files", CACHE / name)
+    (room / "files").mkdir(parents=True)
+    print(f"suites: fetches Debian's package {source.package}", flush=True)
+    apt(room.parent, *source.words, source.package, folder=room)
+    paths = [f"*/{path}" for path in sums()[name]]
+    words = ["tar", "-xJf", opened(room, source), "-C", room / "files", "--strip-components=1"]
+    if subprocess.run([*words, "--wildcards", *paths], check=False).returncode:
+        raise Missing(f"the package {source.package} hasn't all files of tests/suites/sums.txt")
+    with contextlib.suppress(FileNotFoundError):
+        shutil.rmtree(CACHE / name)
+    os.rename(room / "files", CACHE / name)
 
 
 # ---- pieces of a file, which a shim includes

@@ -15,6 +15,7 @@ import clang_programs
 import sources
 from outcomes import Tally, telgovan
 
+SOURCE = "linux-6.1"
 OPERATORS = {
     "+": "add", "-": "sub", "*": "mul", "/": "div", "%": "mod", "|": "or", "&": "and",
     "<<": "lsh", ">>": "rsh", "s>>": "arsh", "^": "xor", "": "mov",
@@ -205,7 +206,7 @@ def output(*words):
 def suite():
     """Each program in three ways."""
     clang, objdump, assembler = map(tool, ("clang", "llvm-objdump", "llvm-mc"))
-    folder = sources.provide("linux-6.1")
+    folder = sources.provide(SOURCE)
     version = "clang " + re.search(r"version (\d+)", output(clang, "--version"))[1]
     read, shown, written = (Tally(title, version) for title in TITLES)
     with tempfile.TemporaryDirectory(prefix="telgovan-") as room:

@@ -4,11 +4,12 @@ import ctypes
 import itertools
 import struct
 import tempfile
-from collections import namedtuple
+from collections import Counter, namedtuple
 
 import sources
 from outcomes import Tally, loaded
 
+SOURCE = "linux-6.1"
 SLOT = 8
 FOLDER = "tools/testing/selftests/bpf"
 ACCEPTED = sources.HERE / "accepted.txt"
@@ -20,8 +21,8 @@ CALL, WIDE, LOCAL_CALL, FRAME_POINTER = 0x85, 0x18, 1, 10
 LOADS = {0x61, 0x69, 0x71, 0x79}
 PACKET_LOADS = {0x20, 0x28, 0x30, 0x40, 0x48, 0x50}
 
-# A program of a table, and what the kernel's verifier answers.
-Test = namedtuple("Test", "group name code need pointers is_fixed accepts message")
+# A program of a table, what the kernel's verifier says of it, and its answer where the kernel runs it.
+Test = namedtuple("Test", "group name code need pointers is_fixed accepts message answer")
 
 
 def tables(folder):
@@ -48,7 +49,7 @@ def shim(folder, room):
 
 
 def test_at(table, *place):
-    code, pointers = ctypes.c_void_p(), ctypes.POINTER(ctypes.c_int)()
+    code, pointers, answer = ctypes.c_void_p(), ctypes.POINTER(ctypes.c_int)(), ctypes.c_uint32()
     slots = table.suite_program(*place, ctypes.byref(code))
     need = table.suite_context(*place, ctypes.byref(pointers))
     return Test(
@@ -60,6 +61,7 @@ def test_at(table, *place):
         bool(table.suite_is_fixed(*place)),
         bool(table.suite_accepts(*place)),
         table.suite_message(*place).decode(),
+        answer.value if table.suite_answer(*place, ctypes.byref(answer)) else None,
     )
 
 
@@ -110,15 +112,38 @@ def listed():
     return rules
 
 
-def compare(tally, test, rules, used):
-    """Counts a program: both verdicts are one, or ours is stricter, or looser by a listed rule."""
+def other_answer(tally, test, program):
+    """Ours where the kernel's test has another answer, or None. A program whose answer comes from
+    its context isn't asked: that is another one there."""
+    zeros, ones = (program.execute(bytearray([fill] * test.need)).r0 for fill in (0, 255))
+    if test.answer is None or zeros != ones:
+        return None
+    if zeros % 2**32 != test.answer:
+        return zeros
+    tally.runs += 1
+    return None
+
+
+def judge(tally, test, rules, used):
+    """Counts a program, and gives the number that it is refused by. One that both accept is run."""
     program, number = loaded(test.need, test.code)
+    other = None
     if program is not None:
-        program.close()
+        with program:
+            other = other_answer(tally, test, program)
+    if other is None:
+        compare(tally, test, number, rules, used)
+    else:
+        tally.differences.append(f"{test.group}: {test.name}: {other:#x} and not {test.answer:#x}")
+    return number
+
+
+def compare(tally, test, number, rules, used):
+    """Counts a program: both verdicts are one, or ours is stricter, or looser by a listed rule."""
     place = test.group, test.name
-    if (program is not None) == test.accepts:
+    if (number is None) == test.accepts:
         tally.agree += 1
-    elif program is None:
+    elif number is not None:
         tally.refused[number] += 1
     elif place in rules:
         used.add(place)
@@ -127,16 +152,27 @@ def compare(tally, test, rules, used):
         tally.differences.append(f"{test.group}: {test.name}: the kernel refuses it: {test.message}")
 
 
+def notes(verdicts):
+    """What ours says of those that the kernel accepts, and of those that it refuses."""
+    for accepts, word in ((True, "accepts"), (False, "refuses")):
+        ours = {number: times for (kernel, number), times in verdicts.items() if kernel == accepts}
+        by = ", ".join(f"{ours[number]} by {number}" for number in sorted(ours, key=lambda it: it or 0) if number)
+        count = sum(ours.values())
+        yield f"of {count} that the kernel {word}, ours accepts {ours.get(None, 0)} and refuses {by}"
+
+
 def suite():
-    folder = sources.provide("linux-6.1")
-    tally, rules, used = Tally("`selftests/bpf/verifier`", "Linux 6.1"), listed(), set()
+    folder = sources.provide(SOURCE)
+    rules, used, verdicts = listed(), set(), Counter()
+    tally = Tally("`selftests/bpf/verifier`", SOURCE.replace("linux-", "Linux "))
     with tempfile.TemporaryDirectory(prefix="telgovan-") as room:
         for test in tests_of(shim(folder, room)):
             why = why_left_out(test)
             if why:
                 tally.left_out[why] += 1
-            else:
-                compare(tally, test, rules, used)
+                continue
+            verdicts[test.accepts, judge(tally, test, rules, used)] += 1
+    tally.notes = [*notes(verdicts), f"{tally.runs} that both accept ran, and gave the kernel's answer"]
     for group, name in sorted(rules.keys() - used):
         tally.differences.append(f"{group}: {name}: is listed, and not accepted")
     return [tally]

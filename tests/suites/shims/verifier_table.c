@@ -110,3 +110,13 @@ int suite_program(int group, int at, const void **code)
 	*code = test->fill_insns;
 	return test->prog_len;
 }
+
+/* Whether the kernel's test runs such a program, and its answer then. */
+int suite_answer(int group, int at, u32 *answer)
+{
+	const struct bpf_test *test = test_at(group, at);
+	const struct context *context = context_of(test->prog_type);
+
+	*answer = test->retval;
+	return test->result == ACCEPT && test->runs >= 0 && (context == &packet || context == &frame);
+}
