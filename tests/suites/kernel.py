@@ -143,4 +143,4 @@ def suite_of_ebpf():
 
 
 def suite_of_classic():
-    return suite("the same, classic, converted", True)
+    return suite("`lib/test_bpf.c`, classic", True)

@@ -24,7 +24,7 @@ SUITES = {
     "verifier": (verifier.suite, verifier.SOURCE),
     "text": (texts.suite, texts.SOURCE),
 }
-HEAD = "| Suite | Of | In the profile | Agree | Differ | Refused, by number | Left out |"
+HEAD = "| Suite | Of | In the profile | Agree | Differ | Refused by | Left out |"
 RULE = "|---|---|---|---|---|---|---|"
 
 

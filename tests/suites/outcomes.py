@@ -72,7 +72,7 @@ class Tally:
 
     def row(self):
         """The suite's row of the page's table."""
-        refused = ", ".join(f"{times} by {number}" for number, times in sorted(self.refused.items()))
+        refused = ", ".join(f"{number}: {times}" for number, times in sorted(self.refused.items()))
         differ = len(self.differences) + len(self.named)
         cells = [self.name, self.version, self.agree + differ, self.agree, differ]
         cells += [refused or "none", self.left_out.total()]

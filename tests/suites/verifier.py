@@ -17,6 +17,7 @@ ACCEPTED = sources.HERE / "accepted.txt"
 HEAD = (r"#ifndef ENOTSUPP", r"static struct bpf_test tests")
 LENGTH = (r"static int probe_filter_length", r"static bool skip_unsupported_map")
 
+TITLES = {True: "`verifier/*.c`, accepted there", False: "`verifier/*.c`, refused there"}
 CALL, WIDE, LOCAL_CALL, FRAME_POINTER = 0x85, 0x18, 1, 10
 LOADS = {0x61, 0x69, 0x71, 0x79}
 PACKET_LOADS = {0x20, 0x28, 0x30, 0x40, 0x48, 0x50}
@@ -101,12 +102,11 @@ def why_left_out(test):
 
 
 def listed():
-    """The rule of each listed program, by its group and name."""
+    """The rule of each listed program, by its group and name as they stand there."""
     rules, rule = {}, None
     for line in ACCEPTED.read_text(encoding="utf-8").splitlines():
         if line.startswith("    "):
-            group, _, name = line.strip().partition(": ")
-            rules[group, name] = rule
+            rules[line.strip()] = rule
         elif line and not line.startswith("#"):
             rule = line
     return rules
@@ -124,7 +124,11 @@ def other_answer(tally, test, program):
     return None
 
 
-def judge(tally, test, rules, used):
+def place_of(test):
+    return f"{test.group}: {test.name}"
+
+
+def judge(tally, test, rules):
     """Counts a program, and gives the number that it is refused by. One that both accept is run."""
     program, number = loaded(test.need, test.code)
     other = None
@@ -132,47 +136,49 @@ def judge(tally, test, rules, used):
         with program:
             other = other_answer(tally, test, program)
     if other is None:
-        compare(tally, test, number, rules, used)
+        compare(tally, test, number, rules)
     else:
-        tally.differences.append(f"{test.group}: {test.name}: {other:#x} and not {test.answer:#x}")
+        tally.differences.append(f"{place_of(test)}: {other:#x} and not {test.answer:#x}")
     return number
 
 
-def compare(tally, test, number, rules, used):
+def compare(tally, test, number, rules):
     """Counts a program: both verdicts are one, or ours is stricter, or looser by a listed rule."""
-    place = test.group, test.name
     if (number is None) == test.accepts:
         tally.agree += 1
     elif number is not None:
         tally.refused[number] += 1
-    elif place in rules:
-        used.add(place)
-        tally.named.append((f"{test.group}: {test.name}", rules[place]))
+    elif place_of(test) in rules:
+        tally.named.append((place_of(test), rules[place_of(test)]))
     else:
-        tally.differences.append(f"{test.group}: {test.name}: the kernel refuses it: {test.message}")
+        tally.differences.append(f"{place_of(test)}: the kernel refuses it: {test.message}")
 
 
-def notes(verdicts):
-    """What ours says of those that the kernel accepts, and of those that it refuses."""
-    for accepts, word in ((True, "accepts"), (False, "refuses")):
-        ours = {number: times for (kernel, number), times in verdicts.items() if kernel == accepts}
-        by = ", ".join(f"{ours[number]} by {number}" for number in sorted(ours, key=lambda it: it or 0) if number)
-        count = sum(ours.values())
-        yield f"of {count} that the kernel {word}, ours accepts {ours.get(None, 0)} and refuses {by}"
+def compare_all(tests, tallies, rules):
+    """Counts the programs below the kernel's verdict. Gives the numbers by which ours refuses those
+    that the kernel refuses too."""
+    numbers = Counter()
+    for test in tests:
+        why = why_left_out(test)
+        if why:
+            tallies[test.accepts].left_out[why] += 1
+        else:
+            number = judge(tallies[test.accepts], test, rules)
+            numbers[number] += not test.accepts and number is not None
+    return +numbers
 
 
 def suite():
-    folder = sources.provide(SOURCE)
-    rules, used, verdicts = listed(), set(), Counter()
-    tally = Tally("`selftests/bpf/verifier`", SOURCE.replace("linux-", "Linux "))
+    """Two tallies: of the programs that the kernel accepts, and of those that it refuses."""
+    folder, rules = sources.provide(SOURCE), listed()
+    version = SOURCE.replace("linux-", "Linux ")
+    tallies = {accepts: Tally(title, version) for accepts, title in TITLES.items()}
     with tempfile.TemporaryDirectory(prefix="telgovan-") as room:
-        for test in tests_of(shim(folder, room)):
-            why = why_left_out(test)
-            if why:
-                tally.left_out[why] += 1
-                continue
-            verdicts[test.accepts, judge(tally, test, rules, used)] += 1
-    tally.notes = [*notes(verdicts), f"{tally.runs} that both accept ran, and gave the kernel's answer"]
-    for group, name in sorted(rules.keys() - used):
-        tally.differences.append(f"{group}: {name}: is listed, and not accepted")
-    return [tally]
+        numbers = compare_all(tests_of(shim(folder, room)), tallies, rules)
+    accepted, refused = tallies[True], tallies[False]
+    accepted.notes.append(f"{accepted.runs} of those that agree ran, and gave the kernel's answer")
+    by = ", ".join(f"{times} by {number}" for number, times in sorted(numbers.items()))
+    refused.notes.append(f"ours refuses {by}")
+    for place in sorted(rules.keys() - {place for place, _ in refused.named}):
+        refused.differences.append(f"{place}: is listed, and not accepted")
+    return [accepted, refused]

@@ -14,6 +14,7 @@
 #define RTE_STR(word) #word
 #define RTE_SET_USED(name) ((void)(name))
 #define __rte_experimental
+#define printf(...) ((void)0) /* a difference is told by our own words */
 #define rte_cpu_to_be_16(number) __builtin_bswap16(number)
 #define rte_cpu_to_be_32(number) __builtin_bswap32(number)
 #define rte_cpu_to_be_64(number) __builtin_bswap64(number)
