@@ -57,7 +57,7 @@ def main():
         words.error(f"no such suite: {', '.join(unknown)}")
     if not given.there:
         sources.fetch_missing(dict.fromkeys(SUITES[name][1] for name in names))
-    rows, fails = [], False
+    rows, paged, fails = [], [], False
     with ProcessPoolExecutor(given.at_once) as pool:
         for name, done in [(name, pool.submit(run, name)) for name in names]:
             tallies, why = done.result()
@@ -66,9 +66,10 @@ def main():
             for tally in tallies:
                 print("\n".join(tally.lines()), flush=True)
                 rows.append(tally.row())
+                paged += [tally.row()] if tally.is_on_page else []
                 fails |= bool(tally.differences)
     print("\n".join(["", HEAD, RULE, *rows, ""]), flush=True)
-    fails |= not page_has(rows)
+    fails |= not page_has(paged)
     sys.exit(1 if fails else 0)
 
 

@@ -40,8 +40,8 @@ RULES = {
 class Tally:
     """What the programs of one suite come to."""
 
-    def __init__(self, name, version):
-        self.name, self.version = name, version
+    def __init__(self, name, version, is_on_page=True):
+        self.name, self.version, self.is_on_page = name, version, is_on_page
         self.agree, self.runs, self.in_pieces = 0, 0, 0
         self.refused, self.left_out = Counter(), Counter()
         self.differences, self.named, self.notes = [], [], []

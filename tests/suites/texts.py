@@ -175,6 +175,8 @@ def llvm_assembled(assembler, room, programs):
 
 # ---- the suite
 
+# the clang of the page's figures
+PAGE_VERSION = "14"
 TITLES = ("text of `llvm-objdump`", "text of bpftool", "our text, by `llvm-mc`")
 
 
@@ -207,8 +209,8 @@ def suite():
     """Each program in three ways."""
     clang, objdump, assembler = map(tool, ("clang", "llvm-objdump", "llvm-mc"))
     folder = sources.provide(SOURCE)
-    version = "clang " + re.search(r"version (\d+)", output(clang, "--version"))[1]
-    read, shown, written = (Tally(title, version) for title in TITLES)
+    version = re.search(r"version (\d+)", output(clang, "--version"))[1]
+    read, shown, written = (Tally(title, f"clang {version}", version == PAGE_VERSION) for title in TITLES)
     with tempfile.TemporaryDirectory(prefix="telgovan-") as room:
         folders = [folder / "include/uapi", folder / "kernel/bpf"]
         library = ctypes.CDLL(str(sources.compiled(room, "disassembly.c", (), folders)))

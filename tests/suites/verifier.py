@@ -17,7 +17,7 @@ ACCEPTED = sources.HERE / "accepted.txt"
 HEAD = (r"#ifndef ENOTSUPP", r"static struct bpf_test tests")
 LENGTH = (r"static int probe_filter_length", r"static bool skip_unsupported_map")
 
-TITLES = {True: "`verifier/*.c`, accepted there", False: "`verifier/*.c`, refused there"}
+TITLES = {True: "`verifier/*.c`, accepted", False: "`verifier/*.c`, refused"}
 CALL, WIDE, LOCAL_CALL, FRAME_POINTER = 0x85, 0x18, 1, 10
 LOADS = {0x61, 0x69, 0x71, 0x79}
 PACKET_LOADS = {0x20, 0x28, 0x30, 0x40, 0x48, 0x50}
