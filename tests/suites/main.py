@@ -74,4 +74,7 @@ def main():
 
 
 if __name__ == "__main__":
-    main()
+    try:
+        main()
+    except sources.Changed as changed:
+        sys.exit(f"suites: {changed}")

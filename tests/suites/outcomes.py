@@ -9,9 +9,9 @@ TOP = Path(__file__).resolve().parents[2]
 sys.path.insert(0, os.path.join(TOP, "bindings/python"))
 import telgovan  # noqa: E402  (the module stands in the folder that was just added)
 
-MOST_CREDIT = 2**31 - 1
-MOST_NEED = 65_536
 TOO_LONG = 3
+# How many differences of a suite are told one by one.
+MOST_TOLD = 30
 
 # The rule of docs/refusals.md behind each number that a program is refused by.
 RULES = {
@@ -67,8 +67,10 @@ class Tally:
             yield f"    {times} left out: {why}"
         for why, times in Counter(why for _, why in self.named).most_common():
             yield f"    {times} differ as is known: {why}"
-        for what in self.differences:
+        for what in self.differences[:MOST_TOLD]:
             yield f"    DIFFERS: {what}"
+        if len(self.differences) > MOST_TOLD:
+            yield f"    DIFFERS: {len(self.differences) - MOST_TOLD} more"
 
     def row(self):
         """The suite's row of the page's table."""

@@ -1,7 +1,7 @@
 """Files of Debian's source packages that the suites are compiled from.
 
 Nothing of them is kept in this repository. They lie in a cache folder, and each has to have the sum
-that `sums.txt` tells, so that another version of a package is noticed.
+that `sums.txt` tells, so that a package whose files are other ones is noticed.
 """
 
 import contextlib
@@ -17,6 +17,8 @@ from pathlib import Path
 HERE = Path(__file__).resolve().parent
 SUMS = HERE / "sums.txt"
 CACHE = Path(os.environ.get("XDG_CACHE_HOME") or "~/.cache").expanduser() / "telgovan/suites"
+# A bound that only a hang meets.
+PATIENCE = 600
 MIRROR = "http://deb.debian.org/debian"
 KEYS = "/usr/share/keyrings/debian-archive-keyring.gpg"
 LISTS = (("deb", "bookworm"), ("deb-src", "bookworm"), ("deb", "trixie"))
@@ -59,24 +61,25 @@ def provide(name):
     return CACHE / name
 
 
+def is_there(name):
+    try:
+        return bool(provide(name))
+    except Missing:
+        return False
+
+
 def fetch_missing(names):
     """Fetches the sources of these that aren't there. Where that can't be done, it is told."""
-    missing = []
-    for name in names:
-        try:
-            provide(name)
-        except Missing:
-            missing.append(name)
+    missing = [name for name in names if not is_there(name)]
     if not missing:
         return
     CACHE.mkdir(parents=True, exist_ok=True)
     with tempfile.TemporaryDirectory(dir=CACHE, prefix="fetching-") as room:
-        try:
-            apt(Path(room), "update")
-            for name in missing:
+        for name in missing:
+            try:
                 fetch(name, Path(room) / name)
-        except Missing as why:
-            print(f"suites: {why}", flush=True)
+            except Missing as why:
+                print(f"suites: {why}", flush=True)
 
 
 # ---- Debian's packages, by its ordinary client with lists of our own
@@ -96,14 +99,15 @@ def apt(room, *words, folder=None):
         "APT::Sandbox::User": "",
     }
     given = [word for key, value in own.items() for word in ("-o", f"{key}={value}")]
-    output = {"stdout": subprocess.PIPE, "stderr": subprocess.STDOUT, "text": True}
+    how = {"stdout": subprocess.PIPE, "stderr": subprocess.STDOUT, "text": True, "timeout": PATIENCE}
     try:
-        ran = subprocess.run(["apt-get", *given, *words], cwd=folder or room, check=False, **output)
-    except FileNotFoundError:
-        raise Missing("there is no apt-get") from None
-    if ran.returncode or re.search("^(W|E): ", ran.stdout, re.MULTILINE):
-        last = (ran.stdout.strip().splitlines() or ["nothing was told"])[-1]
-        raise Missing(f"apt-get {' '.join(words)}: {last}")
+        ran = subprocess.run(["apt-get", *given, *words], cwd=folder or room, check=False, **how)
+    except (FileNotFoundError, subprocess.TimeoutExpired) as error:
+        raise Missing(f"apt-get {words[0]}: {error}") from None
+    # an update that reached no server has status 0
+    wrong = re.search("^(?:E: |W: (?:Failed|Some)).*", ran.stdout, re.MULTILINE)
+    if ran.returncode or wrong:
+        raise Missing(f"apt-get {' '.join(words)}: {wrong[0] if wrong else ran.returncode}")
 
 
 def opened(room, source):
@@ -124,6 +128,7 @@ def fetch(name, room):
     source = SOURCES[name]
     (room / "files").mkdir(parents=True)
     print(f"suites: fetches Debian's package {source.package}", flush=True)
+    apt(room.parent, "update")
     apt(room.parent, *source.words, source.package, folder=room)
     paths = [f"*/{path}" for path in sums()[name]]
     words = ["tar", "-xJf", opened(room, source), "-C", room / "files", "--strip-components=1"]
