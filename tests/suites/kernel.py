@@ -12,7 +12,8 @@ CLASSIC = 1 << 6
 EXPECTED_TO_FAIL = 1 << 1
 SOURCE = "linux-6.12"
 SLOT = 8
-MOST_SLOTS, BOUNDS = 4096, 8
+# A piece has room for the instructions in front of it and behind it.
+MOST_SLOTS, ROOM = 4096, 8
 
 # The slices of the kernel's sources that the shim includes: the file, and where it begins and ends.
 SLICES = {
@@ -55,6 +56,10 @@ class Refused(Exception):
     """The number that a program is refused by."""
 
 
+class Unclear(Exception):
+    """What a piece leaves that it shouldn't."""
+
+
 def run(code, memory):
     """What a program comes to."""
     program, number = loaded(len(memory), code)
@@ -81,7 +86,7 @@ def pieces_of(table, code):
     """The pieces that a program is cut into, or none."""
     slots = len(code) // SLOT
     ends = (ctypes.c_int * slots)()
-    count = table.suite_pieces(code, slots, MOST_SLOTS - BOUNDS, ends)
+    count = table.suite_pieces(code, slots, MOST_SLOTS - ROOM, ends)
     bounds = [0, *ends[:count]]
     return [code[start * SLOT : end * SLOT] for start, end in zip(bounds, bounds[1:])]
 
@@ -96,7 +101,7 @@ def run_pieces(pieces, memory):
             return left
         r0 = left ^ MARK
         if r0 >= 2**32:
-            raise AssertionError(f"a piece left {left:#x}, which tells nothing")
+            raise Unclear(f"a piece leaves {left:#x}")
     return run(lddw(0, r0) + pieces[-1], memory)
 
 
@@ -107,6 +112,9 @@ def compare(tally, table, name, code, runs):
         told = [(wanted, run_pieces(pieces, memory) if pieces else run(code, memory)) for wanted, memory in runs]
     except Refused as refusal:
         tally.refused[TOO_LONG if pieces else refusal.args[0]] += 1
+        return
+    except Unclear as error:
+        tally.differences.append(f"{name}: {error}")
         return
     tally.in_pieces += bool(pieces)
     wrong = [f"{r0 % 2**32:#x} and not {wanted:#x}" for wanted, r0 in told if r0 % 2**32 != wanted]
