@@ -1,11 +1,17 @@
 """Programs in C, pseudo-random from a fixed seed, and what clang makes of them for BPF."""
 
 import random
+import re
+import shutil
 import struct
 import subprocess
 from pathlib import Path
 
+import sources
+
 SEED = 9669
+# the clang of the page's figures
+PAGE_VERSION = "14"
 PROGRAMS = 1000
 WAYS = [(level, processor) for level in ("-O1", "-O2", "-O3") for processor in ("v1", "v2", "v3")]
 KINDS = ("u8", "u16", "u32", "u64", "s8", "s16", "s32", "s64")
@@ -78,6 +84,24 @@ class Writer:
     def function(self, name):
         body = "".join(self.statement() for _ in range(self.chance.randrange(2, 9)))
         return FUNCTION.format(name, self.chance.choice(CONSTANTS), body)
+
+
+def tool(name):
+    """A tool of LLVM's, by its plain name or with the version of Debian 12."""
+    found = shutil.which(name) or shutil.which(f"{name}-{PAGE_VERSION}")
+    if not found:
+        raise sources.Missing(f"there is no {name}")
+    return found
+
+
+def version():
+    words = [tool("clang"), "--version"]
+    told = subprocess.run(words, stdout=subprocess.PIPE, text=True, check=True).stdout
+    return re.search(r"version (\d+)", told)[1]
+
+
+def is_of_page():
+    return version() == PAGE_VERSION
 
 
 def sections(data):

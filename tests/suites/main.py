@@ -11,6 +11,7 @@ import sys
 from concurrent.futures import ProcessPoolExecutor
 
 import dpdk
+import interpreter
 import kernel
 import sources
 import texts
@@ -20,6 +21,7 @@ import verifier
 SUITES = {
     "kernel": (kernel.suite_of_ebpf, kernel.SOURCE),
     "classic": (kernel.suite_of_classic, kernel.SOURCE),
+    "interpreter": (interpreter.suite, kernel.SOURCE),
     "dpdk": (dpdk.suite, dpdk.SOURCE),
     "verifier": (verifier.suite, verifier.SOURCE),
     "text": (texts.suite, texts.SOURCE),

@@ -6,7 +6,6 @@ text of the same programs is written in LLVM's syntax, and llvm-mc assembles it.
 
 import ctypes
 import re
-import shutil
 import subprocess
 import tempfile
 from pathlib import Path
@@ -177,17 +176,7 @@ def llvm_assembled(assembler, room, programs):
 
 # ---- the suite
 
-# the clang of the page's figures
-PAGE_VERSION = "14"
 TITLES = ("text of `llvm-objdump`", "text of bpftool", "our text, by `llvm-mc`")
-
-
-def tool(name):
-    """A tool of LLVM's, by its plain name or with the version of Debian 12."""
-    found = shutil.which(name) or shutil.which(f"{name}-14")
-    if not found:
-        raise sources.Missing(f"there is no {name}")
-    return found
 
 
 def judge(tally, name, code, make):
@@ -209,10 +198,10 @@ def output(*words):
 
 def suite():
     """Each program in three ways."""
-    clang, objdump, assembler = map(tool, ("clang", "llvm-objdump", "llvm-mc"))
+    clang, objdump, assembler = map(clang_programs.tool, ("clang", "llvm-objdump", "llvm-mc"))
     folder = sources.provide(SOURCE)
-    version = re.search(r"version (\d+)", output(clang, "--version"))[1]
-    read, shown, written = (Tally(title, f"clang {version}", version == PAGE_VERSION) for title in TITLES)
+    version, is_of_page = f"clang {clang_programs.version()}", clang_programs.is_of_page()
+    read, shown, written = (Tally(title, version, is_of_page) for title in TITLES)
     with tempfile.TemporaryDirectory(prefix="telgovan-") as room:
         folders = [folder / "include/uapi", folder / "kernel/bpf"]
         library = ctypes.CDLL(str(sources.compiled(room, "disassembly.c", (), folders)))
