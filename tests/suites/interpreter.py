@@ -1,8 +1,8 @@
 """The kernel's interpreter, kernel/bpf/core.c, beside ours: each operation and comparison on many
-numbers, and the programs that clang made on many memories.
+numbers, and the programs that clang made on pseudo-random memories.
 
-Shifts of a number by more than its bits, and divisions that the kernel's verifier has its own code
-for, are left out where the kernel's interpreter has no answer.
+What the kernel's verifier refuses, or writes as other instructions, isn't asked: shifts by a constant
+of more than the bits, divisions by zero, and signed ones by -1.
 """
 
 import ctypes
@@ -31,6 +31,7 @@ IMMEDIATES = (0, 1, 2, 3, 7, 8, 15, 16, 31, 32, 33, 63, 255, 2**31 - 1, -1, -2, 
 
 LOADS = "ldxdw r6, [r1+0]\nldxdw r7, [r1+8]\n"
 RESULT = "stxdw [r1+16], r6\nmov64 r0, r6\nexit"
+# behind a jump of two slots
 TAKEN = "mov64 r0, 1\nexit\nmov64 r0, 2\nexit"
 
 
@@ -97,7 +98,8 @@ def other(library, program, memory, argument):
     wanted = library.suite_interpret(program.code, theirs, len(memory), argument)
     if r0 == wanted and ours == theirs.raw:
         return None
-    return f"on {memory.hex()} and {argument:#x}: {r0:#x}, {ours.hex()} and not {wanted:#x}, {theirs.raw.hex()}"
+    before, left, right = (bytes(it).rstrip(b"\0").hex() for it in (memory, ours, theirs.raw))
+    return f"on {before} and {argument:#x}: {r0:#x}, {left} and not {wanted:#x}, {right}"
 
 
 def judge(tally, library, name, code, runs):
@@ -139,7 +141,7 @@ def suite():
     folder = sources.provide(kernel.SOURCE)
     version = kernel.SOURCE.replace("linux-", "Linux ")
     single = Tally("`kernel/bpf/core.c`, one operation", version)
-    whole = Tally("`kernel/bpf/core.c`, clang's", version, clang_programs.is_of_page())
+    whole = Tally("`kernel/bpf/core.c`, clang's programs", version, clang_programs.is_of_page())
     with tempfile.TemporaryDirectory(prefix="telgovan-") as room:
         library = shim(folder, room)
         judge_operations(single, library)
