@@ -121,11 +121,21 @@ def memory_of(left, right):
     return left.to_bytes(8, "little") + right.to_bytes(8, "little") + bytes(LENGTH - 16)
 
 
-def judge_operations(tally, library):
+def compare(title, is_on_page, judge_all):
+    """What the programs come to that a function judges, which is given a tally, the kernel's
+    interpreter and a room."""
+    folder = sources.provide(kernel.SOURCE)
+    tally = Tally(title, kernel.SOURCE.replace("linux-", "Linux "), is_on_page)
+    with tempfile.TemporaryDirectory(prefix="telgovan-") as room:
+        judge_all(tally, shim(folder, room), room)
+    tally.notes.append(f"{tally.runs} runs")
+    return [tally]
+
+
+def judge_operations(tally, library, _room):
     for line, rest, may in operations():
         code = telgovan.assemble(f"{LOADS}{line}\n{rest}")
         judge(tally, library, line, code, [(memory_of(*pair), 0) for pair in pairs(may)])
-    tally.notes.append(f"{tally.runs} runs")
 
 
 def judge_clang(tally, library, room):
@@ -134,16 +144,11 @@ def judge_clang(tally, library, room):
         for name, code in clang_programs.sections(made.read_bytes()).items():
             runs = [(chance.randbytes(LENGTH), chance.choice(NUMBERS)) for _ in range(MEMORIES)]
             judge(tally, library, name, code, runs)
-    tally.notes.append(f"{tally.runs} runs")
 
 
-def suite():
-    folder = sources.provide(kernel.SOURCE)
-    version = kernel.SOURCE.replace("linux-", "Linux ")
-    single = Tally("`kernel/bpf/core.c`, one operation", version)
-    whole = Tally("`kernel/bpf/core.c`, clang's programs", version, clang_programs.is_of_page())
-    with tempfile.TemporaryDirectory(prefix="telgovan-") as room:
-        library = shim(folder, room)
-        judge_operations(single, library)
-        judge_clang(whole, library, room)
-    return [single, whole]
+def suite_of_operations():
+    return compare("`kernel/bpf/core.c`, one operation", True, judge_operations)
+
+
+def suite_of_clang():
+    return compare("`kernel/bpf/core.c`, clang's programs", clang_programs.is_of_page(), judge_clang)

@@ -21,7 +21,8 @@ import verifier
 SUITES = {
     "kernel": (kernel.suite_of_ebpf, kernel.SOURCE),
     "classic": (kernel.suite_of_classic, kernel.SOURCE),
-    "interpreter": (interpreter.suite, kernel.SOURCE),
+    "interpreter": (interpreter.suite_of_operations, kernel.SOURCE),
+    "clang": (interpreter.suite_of_clang, kernel.SOURCE),
     "dpdk": (dpdk.suite, dpdk.SOURCE),
     "verifier": (verifier.suite, verifier.SOURCE),
     "text": (texts.suite, texts.SOURCE),
