@@ -1,0 +1,2 @@
+/* Takes the place of a header of the kernel. */
+#include "../kernel.h"
