@@ -1,7 +1,5 @@
 //! Descriptors 0, 1 and 2, without which a process may be started.
 
-ghost use Rattle.std.specs.Prelude.{◌≤◌, IfOk, vec_len};
-
 use std::alloc::Global;
 use std::fs::{File, Files};
 use std::io;
@@ -13,9 +11,7 @@ const STANDARD_ERROR: i32 = 2;
 /// Opens `/dev/null` in place of each of the three that is closed, and gives what it opened, to be held to
 /// the end of the process. Else the next file or connection would be standard error, and lines of the
 /// log would be written into it.
-pub fn fill_gaps<R: Files<File = File>>(rt: &R, alloc: Global) -> io::Result<Vec<OwnedFd>>
-    ensures { IfOk result (λ filled. vec_len filled ≤ 3) }
-{
+pub fn fill_gaps<R: Files<File = File>>(rt: &R, alloc: Global) -> io::Result<Vec<OwnedFd>> {
     let mut filled = Vec::new(alloc);
     for _ in 0..3u32 {
         let null = File::options()
