@@ -262,7 +262,8 @@ class Log(unittest.TestCase):
                         self.assertTrue(result_of(client, job)["ok"])
                     client.stream.close()
                     lines = self.ended(server)
-            self.assertEqual([(line["job"], line.get("connection")) for line in told(lines, "started")], [(1, None), (2, None), (3, 1)])
+            started = sorted((line["job"], line.get("connection") or 0) for line in told(lines, "started"))
+            self.assertEqual(started, [(1, 0), (2, 0), (3, 1)])
             return True
 
         beside_a_long_job(check)

@@ -912,7 +912,7 @@ class Ends(Room):
             self.assertEqual(self.names(), [])
 
     def test_a_live_server_s_socket_is_not_taken(self):
-        first = self.start("--clients", 8, "--sessions", 100, "--grants", self.path("grants"), *self.words("alice", "bob"))
+        first = self.start("--clients", 64, "--sessions", 100, "--grants", self.path("grants"), *self.words("alice", "bob"))
         alice, granter = self.connect(first, "alice"), self.connect(first, "grants")
         granter.ask(grant("alice"))
         names = self.names()
