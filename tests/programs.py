@@ -2,6 +2,7 @@
 
 import json
 import os
+import random
 import socket
 import struct
 import subprocess
@@ -77,9 +78,12 @@ def is_read(stream, count):
 
 
 def free_port():
-    with socket.socket() as probe:
-        probe.bind(("127.0.0.1", 0))
-        return probe.getsockname()[1]
+    """A port at which nobody listens, below those that the system gives to connections: one of these may be
+    given to another test's ahead of the server's start."""
+    while True:
+        port = random.SystemRandom().randrange(10_000, 32_000)
+        if may_listen(port):
+            return port
 
 
 def may_listen(port):
