@@ -3,9 +3,13 @@
 //!
 //! Where one request for memory of a scenario among the first ten is refused, whichever that is,
 //! it looks that all stands as it has to, calls again, and prints the same. With nothing on
-//! standard input the program goes through all scenarios, and with a name there through that one.
+//! standard input the program goes through all scenarios. With `NAME AHEAD MOST` it makes and drops
+//! AHEAD requests for memory, goes through the scenario of this name, and then tells whether a
+//! request of the scenario's was refused, or how many it made if that is under MOST: for this it
+//! makes up to MOST requests more, one of which is refused where none was before.
 #![tactic(auto)]
 
+mod requests;
 mod stop;
 
 // the job of two tasks, and texts as a stream
@@ -41,6 +45,7 @@ mod looking;
 mod meeting;
 mod opened;
 
+use requests::{ScenarioCall, make, question_of};
 use std::alloc::Global;
 use std::io;
 use std::io::{Read, Write};
@@ -135,23 +140,23 @@ fn print<W: Write>(
 /// The longest input, which is read in one piece.
 const INPUT_LEN: usize = 64;
 
-/// The scenario of this name, if there is one.
-fn scenario_of(input: &[u8]) -> Option<&str> {
-    let name = str::from_utf8(input).ok()?.trim();
-    NAMES.iter().any(|known| *known == name).then_some(name)
-}
-
-/// Goes through these scenarios, and gives the status.
-fn go_through<R>(rt: R, alloc: Global, output: &mut impl Write, names: &[&str]) -> ExitCode
+/// Goes through one scenario, with requests ahead of it and behind it.
+fn ask<R, W>(rt: R, alloc: Global, output: &mut W, question: &ScenarioCall) -> io::Result<()>
 where
     R: Threads + Wait + Copy + Send + Sync + Drop + 'static,
+    W: Write,
 {
-    for name in names {
-        if print(output, name, &came_to(rt, alloc, name)).is_err() {
-            return ExitCode::from(3);
-        }
+    let made = make(alloc, question.ahead);
+    let answer = came_to(rt, alloc, question.name);
+    print(output, question.name, &answer)?;
+    let behind = make(alloc, question.most);
+    if made < question.ahead {
+        writeln!(output, "refused ahead of the scenario")
+    } else if behind < question.most {
+        writeln!(output, "refused behind {} more", behind)
+    } else {
+        writeln!(output, "refused once")
     }
-    ExitCode::SUCCESS
 }
 
 fn main(rt: HostRuntime) -> ExitCode {
@@ -162,10 +167,18 @@ fn main(rt: HostRuntime) -> ExitCode {
         return ExitCode::from(3);
     };
     if length == 0 {
-        return go_through(rt, alloc, &mut output, &NAMES);
+        for name in NAMES {
+            if print(&mut output, name, &came_to(rt, alloc, name)).is_err() {
+                return ExitCode::from(3);
+            }
+        }
+        return ExitCode::SUCCESS;
     }
-    match scenario_of(input.get(..length).unwrap_or(&[])) {
-        Some(name) => go_through(rt, alloc, &mut output, &[name]),
+    match question_of(input.get(..length).unwrap_or(&[])) {
+        Some(question) => match ask(rt, alloc, &mut output, &question) {
+            Ok(()) => ExitCode::SUCCESS,
+            Err(_) => ExitCode::from(3),
+        },
         None => ExitCode::from(2),
     }
 }
