@@ -44,6 +44,7 @@ HELP = {
     "telgovan_tasks_total": "counter, Tasks of jobs that are over.",
     "telgovan_job_seconds": "histogram, How long jobs ran.",
     "telgovan_job_wait_seconds": "histogram, How long jobs waited for a worker.",
+    "telgovan_notes_total": "counter, What the server told its host in words, such as a compaction.",
     "telgovan_log_lines_lost_total": "counter, Lines that the server dropped, since nobody read them in time.",
     "telgovan_log_lines_unknown_total": "counter, Lines that aren't a log's.",
     # what the server itself tells
@@ -103,7 +104,7 @@ class Metrics:
         self.names, self.path, self.lock = names, path, threading.Lock()
         self.values = collections.defaultdict(dict)
         self.running = set()
-        for name in ("requests", "log_lines_lost", "log_lines_unknown"):
+        for name in ("requests", "notes", "log_lines_lost", "log_lines_unknown"):
             self.add(f"telgovan_{name}_total", 0)
         self.set("telgovan_connections", 0)
         self.set("telgovan_jobs", 0)
@@ -135,7 +136,7 @@ class Metrics:
         with self.lock:
             try:
                 told = json.loads(line)
-                getattr(self, f"on_{told['event']}")(told)
+                getattr(self, "on_" + told["event"].replace(" ", "_"))(told)
                 self.add("telgovan_log_lines_lost_total", told.get("lost", 0))
             except (ValueError, KeyError, TypeError, AttributeError):
                 self.add("telgovan_log_lines_unknown_total", 1)
@@ -185,6 +186,15 @@ class Metrics:
 
     def on_refused(self, told):
         self.add("telgovan_requests_refused_total", 1, code=told["code"])
+
+    def on_note(self, told):
+        self.add("telgovan_notes_total", 1)
+
+    def on_journal_failed(self, told):
+        pass  # a note says which, and the server ends
+
+    def on_lost(self, told):
+        pass  # what was lost is counted of every line
 
     def ask(self):
         """Takes what the server counts, or that it doesn't tell it."""

@@ -8,7 +8,7 @@ import subprocess
 import time
 import zlib
 
-from programs import BPFJOBS, PATIENCE, frame, is_read
+from programs import BPFJOBS, PATIENCE, frame, is_read, past_listening
 from test_local import Client
 
 HEADER = 8
@@ -233,6 +233,11 @@ def book_of(data):
     return book_of_changes(change_of(payload) for payload in payloads_of(data)[0])
 
 
+def failed_lines(path):
+    """The last lines of a server whose journal fails: the reply that rests on it isn't written, which ends its connection."""
+    return f"bpfjobs: a connection was given up: 84: write failed\nbpfjobs: {path}: it can't be written, or not be synced\n"
+
+
 def read(path):
     with open(path, "rb") as file:
         return file.read()
@@ -324,11 +329,20 @@ class Keeper:
             self.process = None
 
     def run(self, *more):
-        """Starts it and has it end at once: its status, and what it tells on standard error."""
+        """Starts it and has it end at once: its status, and what it tells on standard error. One that begins tells at
+        last that it takes connections, which is left out."""
         words = self.command("--until-eof", *more)
         ran = subprocess.run(words, stdin=subprocess.DEVNULL, capture_output=True, text=True, timeout=PATIENCE, check=False)
         assert ran.stdout == ""
-        return ran.returncode, ran.stderr
+        if ran.returncode != 0:
+            return ran.returncode, ran.stderr
+        lines = past_listening(ran.stderr, words)
+        assert ran.stderr.startswith(lines), ran.stderr
+        return 0, lines
+
+    def lines(self):
+        """What a server that ends has told to a pipe, beside that it takes connections."""
+        return past_listening(self.process.stderr.read().decode(), self.process.args)
 
 
 class TenantKeeper(Keeper):

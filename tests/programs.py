@@ -97,13 +97,42 @@ def may_listen(port):
     return True
 
 
+def listening(words):
+    """What `bpfjobs serve` by these words tells once it takes connections."""
+    words = list(map(str, words))
+    said = dict(zip(words, words[1:]))
+    place = said.get("--socket") or f"127.0.0.1:{int(said['--port'])}"
+    sessions = said.get("--sessions") or ("1" if said.get("--clients", "1") == "1" else "")
+    return f"listening on {place}" + f" for {sessions} connection{'s' * (sessions != '1')}" * bool(sessions)
+
+
+def past_listening(lines, words):
+    """What a server by these words told beside the line that it takes connections, which is there once."""
+    lines = lines.splitlines(keepends=True)
+    line = f"bpfjobs: {listening(words)}\n"
+    assert lines.count(line) == 1, lines
+    lines.remove(line)
+    return "".join(lines)
+
+
+def events_past_listening(events, words):
+    """The events of a server's log without the note that it takes connections, which stands behind `ready` and ahead of
+    each connection. Beside it a journal's open jobs may begin."""
+    events = list(events)
+    (at,) = [at for at, event in enumerate(events) if event["event"] == "note" and event["text"] == listening(words)]
+    ahead = [event["event"] for event in events[:at]]
+    assert "ready" in ahead and "opened" not in ahead, events[: at + 1]
+    return events[:at] + events[at + 1 :]
+
+
 class Server:
     """`bpfjobs serve`, until so many connections have ended."""
 
-    def __init__(self, sessions=1_000_000, workers=2, words=None, port=None, more=(), stdin=subprocess.DEVNULL, stderr=None):
+    def __init__(self, sessions=1_000_000, workers=2, words=None, port=None, more=(), ahead=(), stdin=subprocess.DEVNULL, stderr=None):
         self.port = port or free_port()
         words = words or ["serve", "--port", self.port, "--workers", workers, "--sessions", sessions, *more]
-        self.process = subprocess.Popen([BPFJOBS, *map(str, words)], stdin=stdin, stdout=subprocess.DEVNULL, stderr=stderr)
+        words = [*ahead, BPFJOBS, *map(str, words)]
+        self.process = subprocess.Popen(words, stdin=stdin, stdout=subprocess.DEVNULL, stderr=stderr)
 
     def __enter__(self):
         return self

@@ -12,7 +12,7 @@ import time
 import unittest
 
 from patience import PATIENCE, PAUSE, wait_for
-from programs import Server, assemble, frame, free_port, is_read, submit_text
+from programs import Server, assemble, frame, free_port, is_read, past_listening, submit_text
 from rows import code_of
 from test_server import dialog, is_later, texts_of
 
@@ -24,6 +24,9 @@ ASKED = 100
 MEANWHILE = 10
 
 ADD = "mov64 r0, 40 / add64 r0, 2 / exit"
+
+# What a server tells of connections that it can't take for want of a descriptor, once, until it takes one.
+FULL, AGAIN = "no connection can be taken now: Too many open files (os error 24)", "takes connections again"
 
 
 def told(reply):
@@ -183,10 +186,10 @@ class Endless(unittest.TestCase):
 
     ACCOUNT = {"op": "account", "tenant": "nobody"}
 
-    def server(self):
+    def server(self, **how):
         port = free_port()
         words = ["serve", "--port", port, "--clients", 4, "--until-eof"]
-        return Server(words=words, port=port, stdin=subprocess.PIPE)
+        return Server(words=words, port=port, stdin=subprocess.PIPE, **how)
 
     def test_connections_have_no_end(self):
         """It serves one after the other until its input ends."""
@@ -208,9 +211,9 @@ class Endless(unittest.TestCase):
             self.assertEqual(server.status(), 0)
 
     def test_it_waits_for_a_descriptor(self):
-        """Where no descriptor is left, a connection waits until one is. `.ci/in_time.py` tells how
-        much the server works meanwhile."""
-        with self.server() as server:
+        """Where no descriptor is left, a connection waits until one is, which is no fault of the server's.
+        `.ci/in_time.py` tells how much the server works meanwhile."""
+        with self.server(stderr=subprocess.PIPE) as server:
             first = Client(server)
             first.ask(self.ACCOUNT)
             limit = files_of(server) + 1
@@ -226,8 +229,12 @@ class Endless(unittest.TestCase):
             for client in (second, third):
                 client.stream.close()
             server.process.stdin.close()
-            # a connection could not be taken at first, which is told at the end
-            self.assertEqual(server.status(), 3)
+            self.assertEqual(server.status(), 0)
+            with server.process.stderr as lines:
+                told = past_listening(lines.read().decode(), server.process.args).splitlines()
+        # the connection that wakes the server at its end may find no descriptor either
+        self.assertEqual(told[:2], [f"bpfjobs: {FULL}", f"bpfjobs: {AGAIN}"])
+        self.assertIn(told[2:], ([], told[:1], told[:2]))
 
     def test_it_ends_where_no_descriptor_was_left_at_its_end(self):
         """The end of its input comes while no descriptor is left for the connection that wakes it."""
@@ -239,8 +246,7 @@ class Endless(unittest.TestCase):
                 limit = files_of(server)
                 resource.prlimit(server.process.pid, resource.RLIMIT_NOFILE, (limit, limit))
                 server.process.stdin.close()
-                # where a connection could not be taken at first, that is told at the end
-                self.assertIn(server.status(), (0, 3))
+                self.assertEqual(server.status(), 0)
                 for client in clients:
                     client.stream.close()
 
@@ -518,7 +524,7 @@ class Clients(unittest.TestCase):
             self.assertEqual(server.status(), 0)
 
     def test_a_client_that_keeps_a_read_waiting_is_given_up(self):
-        with Server(sessions=2, more=("--timeout", 1)) as server:
+        with Server(sessions=2, more=("--timeout", 1), stderr=subprocess.PIPE) as server:
             silent = server.connect()
             self.assertEqual(silent.recv(1), b"")
             silent.close()
@@ -526,6 +532,9 @@ class Clients(unittest.TestCase):
             self.assertEqual(client.ask('{"op":"account","tenant":"t"}'), {"code": 74, "ok": False})
             client.stream.close()
             self.assertEqual(server.status(), 3)
+            with server.process.stderr as lines:
+                told = past_listening(lines.read().decode(), server.process.args)
+            self.assertEqual(told, "bpfjobs: a connection was given up: 83: read failed\n")
 
     def test_a_third_silent_a_third_cutting_and_a_third_working(self):
         clients = 63
@@ -549,8 +558,8 @@ class Clients(unittest.TestCase):
             for thread in cutting:
                 thread.join()
             self.assertEqual([thread.wrong for thread in working if thread.wrong], [])
-            # 64 for clients, of which the first thread serves too, and 4 for jobs
-            self.assertLessEqual(threads_of(server), 1 + 64 + 4)
+            # the first thread, the log's, 64 for clients and 4 for jobs
+            self.assertLessEqual(threads_of(server), 1 + 1 + 64 + 4)
             for stream in silent:
                 stream.close()
             client = Client(server)
@@ -573,8 +582,8 @@ class Clients(unittest.TestCase):
                 length = int.from_bytes(is_read(client.stream, 4), "big")
                 self.assertEqual(json.loads(is_read(client.stream, length)), {"job": number, "ok": True})
                 if number % 100 == 0:
-                    # 2 for clients, of which the first thread serves too, and 2 for jobs
-                    self.assertLessEqual(threads_of(server), 1 + 2 + 2)
+                    # the first thread, the log's, 2 for clients and 2 for jobs
+                    self.assertLessEqual(threads_of(server), 1 + 1 + 2 + 2)
             sender.join()
             for number in range(1, 1001):
                 while (reply := client.ask({"op": "result", "job": number})).get("code") == 77:

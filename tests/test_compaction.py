@@ -11,7 +11,7 @@ import unittest
 from journal_load import Load, good_jobs
 from journals import book_of, payloads_of, read
 from patience import PATIENCE, wait_for
-from programs import BPFJOBS, assemble
+from programs import BPFJOBS, assemble, listening, past_listening
 from test_clients import is_open
 from test_journal import ACCOUNT, Room, grant, submit
 from trees import comparable
@@ -257,7 +257,8 @@ class NotCompacted(Long):
         words = ["prlimit", "--fsize=64:64", *self.server.command("--until-eof")]
         script = "import signal, subprocess, sys; signal.signal(signal.SIGXFSZ, signal.SIG_IGN); sys.exit(subprocess.run(sys.argv[1:], restore_signals=False).returncode)"
         ran = subprocess.run(["python3", "-c", script, *words], stdin=subprocess.DEVNULL, capture_output=True, text=True, timeout=PATIENCE, check=False)
-        self.assertEqual((ran.returncode, ran.stderr), (0, f"bpfjobs: {self.server.journal}: not compacted: a snapshot can't be written\n"))
+        line = f"bpfjobs: {self.server.journal}: not compacted: a snapshot can't be written\n"
+        self.assertEqual((ran.returncode, past_listening(ran.stderr, words)), (0, line))
         self.assertEqual((self.data(), os.path.exists(self.beside())), (before, False))
         self.assertEqual(self.told(self.start()), told)
 
@@ -269,14 +270,16 @@ class Crashes(Long):
     CALLS = "openat,write,fsync,fdatasync,ftruncate,fchmod,rename,renameat,renameat2,unlink,unlinkat"
 
     def run_with(self, what):
-        """The status and the lines of a server of which a call fares so, and whether any did."""
+        """The status and the lines of a server of which a call fares so, and whether any did. That it takes connections,
+        which may be the call, is left out."""
         told = os.path.join(self.room, "calls")
         words = ["strace", "-f", "-qq", "-o", told, "-e", f"trace={self.CALLS}", "-e", f"inject={self.CALLS}:{what}", *self.server.command("--until-eof")]
         ran = subprocess.run(words, stdin=subprocess.DEVNULL, capture_output=True, text=True, timeout=PATIENCE, check=False)
         with open(told, encoding="utf-8") as file:
             text = file.read()
         os.remove(told)
-        return ran.returncode, ran.stderr, "INJECTED" in text or "killed by SIGKILL" in text, text
+        lines = ran.stderr.replace(f"bpfjobs: {listening(words)}\n", "")
+        return ran.returncode, lines, "INJECTED" in text or "killed by SIGKILL" in text, text
 
     def first_call(self):
         """The number of the first call that has to do with the journal."""
@@ -323,6 +326,8 @@ class Crashes(Long):
         """A failure is told, or comes behind all that matters."""
         def check(status, lines, was_hit, text):
             self.assertIn(status, (0, 3), text)
+            if status == 3:
+                self.assertTrue(lines, text)
             if was_hit and self.server.journal in "".join(line for line in text.splitlines() if "INJECTED" in line):
                 self.assertTrue(lines, text)
 

@@ -1,4 +1,4 @@
-"""The texts of faults, as the sources write them: each begins with its number. Those that no program prints stand here."""
+"""The texts of faults, as the sources write them: each begins with its number. Those that no client is told stand here."""
 
 import glob
 import os
@@ -12,10 +12,12 @@ TEXT = re.compile(r'\s+#\[error\("(.*)"\)\]$')
 VARIANT = re.compile(r"\s+([A-Z]\w+)")
 ARM = re.compile(r"\s+(.*) => (\d+),$")
 
-# What no client is told and no program prints.
-UNPRINTED = {
-    ("ServeFault", "Socket"): "a socket failed",
+# What no client is told. The host of a server reads those of its ends.
+UNTOLD = {
+    ("ServeFault", "Socket"): "connections can't be taken any more",
     ("ServeFault", "Connection"): "a connection was given up: {0}",
+    ("ServeFault", "Threads"): "not all of the workers and clients can be started: there is no thread for one",
+    ("ServeFault", "Restart"): "a job that is open can't be started again: {0}",
     ("SessionFault", "FrameTooLarge"): "71: frame over 1048576 bytes",
     ("SessionFault", "NotJson"): "72: no JSON",
     ("SessionFault", "BadRequest"): "73: no such request",
@@ -64,9 +66,9 @@ class Texts(unittest.TestCase):
                 judged += 1
         self.assertGreater(judged, 50)
 
-    def test_those_that_no_program_prints(self):
-        types = {enum for enum, _ in UNPRINTED}
-        self.assertEqual({names: text for names, text in texts().items() if names[0] in types}, UNPRINTED)
+    def test_those_that_no_client_is_told(self):
+        types = {enum for enum, _ in UNTOLD}
+        self.assertEqual({names: text for names, text in texts().items() if names[0] in types}, UNTOLD)
 
 
 if __name__ == "__main__":

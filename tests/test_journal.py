@@ -16,8 +16,8 @@ import unittest
 
 import journals
 from journal_load import Load, good_jobs
-from journals import Keeper, book_of, payloads_of, read, record, starts_of, traced
-from programs import BPFJOBS, PATIENCE, assemble, submit_text
+from journals import Keeper, book_of, failed_lines, payloads_of, read, record, starts_of, traced
+from programs import BPFJOBS, PATIENCE, assemble, events_past_listening, submit_text
 from rows import code_of
 from test_clients import beside_a_long_job, is_open
 from trees import comparable
@@ -396,8 +396,6 @@ HEAD = journals.HEADER
 class Failing(Room):
     """A journal that can't be written any more."""
 
-    LINE = "bpfjobs: {}: it can't be written, or not be synced\n"
-
     def check_failing(self, client):
         """Grants until the journal fails. What was told is in it, and nothing is told behind."""
         told = 0
@@ -413,8 +411,7 @@ class Failing(Room):
             with self.assertRaises((ConnectionResetError, BrokenPipeError)):
                 other.told(ACCOUNT)
         self.assertEqual(self.server.process.wait(PATIENCE), 3)
-        lines = self.server.process.stderr.read().decode()
-        self.assertEqual(lines, self.LINE.format(self.server.journal))
+        self.assertEqual(self.server.lines(), failed_lines(self.server.journal))
         return told
 
     def test_a_limit_for_files(self):
@@ -445,7 +442,7 @@ class Failing(Room):
         self.assertLessEqual(book.granted["t"], told + 1)
 
     def test_the_last_line_of_the_log(self):
-        """A host's log goes on, and the line of the journal's end stands among its lines."""
+        """A host's log goes on, and the journal's end is a note among its lines."""
         def limited():
             signal.signal(signal.SIGXFSZ, signal.SIG_IGN)
             resource.setrlimit(resource.RLIMIT_FSIZE, (100, 100))
@@ -460,13 +457,14 @@ class Failing(Room):
                 client.ask(grant(1))
         self.assertEqual(self.server.process.wait(PATIENCE), 3)
         reader.join(PATIENCE)
-        lines = [line.decode().rstrip("\n") for line in read]
-        self.assertIn(self.LINE.format(self.server.journal).rstrip("\n"), lines)
-        events = [json.loads(line) for line in lines if line.startswith("{")]
+        events = events_past_listening(map(json.loads, read), self.server.process.args)
+        notes = [event["text"] for event in events if event["event"] == "note"]
         closed = [event["code"] for event in events if event["event"] == "closed"]
-        # a busy machine may lose lines: at its end a server waits for them for two seconds
+        # a busy machine may lose lines: at its end a server waits for them for one second
         is_whole = any(event["event"] == "stopping" for event in events) and not any("lost" in event for event in events)
         self.assertIn(closed, ([84],) if is_whole else ([84], []))
+        if is_whole:
+            self.assertEqual("".join(f"bpfjobs: {note}\n" for note in notes), failed_lines(self.server.journal))
 
 
 @unittest.skipUnless(shutil.which("strace"), "needs Debian's strace")
@@ -554,7 +552,7 @@ class FailingCalls(Room):
                 self.assertEqual(client.ask(grant(1))["granted"], count + 1)
                 count += 1
         self.assertEqual((count, self.server.process.wait(PATIENCE)), (number - 1, 3))
-        self.assertEqual(self.server.process.stderr.read().decode(), Failing.LINE.format(self.server.journal))
+        self.assertEqual(self.server.lines(), failed_lines(self.server.journal))
         self.server.end()
         book = book_of(self.data())
         self.assertIn(book.granted.get("t", 0), (count, count + 1))

@@ -481,7 +481,7 @@ class FailingCalls(Traced):
         for asking in (client, other):
             with self.assertRaises((ConnectionResetError, BrokenPipeError)):
                 asking.told(ACCOUNT)
-        self.assertTrue(self.server.lines().splitlines()[-1].startswith(f"bpfjobs: {self.server.journal}: "), self.server.lines())
+        self.assertTrue(self.server.notes()[-1].startswith(f"{self.server.journal}: "), self.server.notes())
         self.server.process = None
         client = self.start()
         self.assertIn(client.ask({"op": "account", "tenant": "u"}).get("granted", 0), (granted, granted + 1))

@@ -1,8 +1,10 @@
 """`bpfjobs serve --log`: a line on standard error for each connection and each job, of which nothing waits."""
 
+import contextlib
 import fcntl
 import json
 import os
+import shutil
 import socket
 import struct
 import subprocess
@@ -12,7 +14,7 @@ import unittest
 
 from journals import book_of, read
 from patience import PATIENCE
-from programs import BPFJOBS, VERSION, Server, frame, frames, is_read, submit_text
+from programs import BPFJOBS, VERSION, Server, events_past_listening, frame, frames, is_read, past_listening, submit_text
 from rows import code_of
 from test_clients import Client, beside_a_long_job, by_timeouts, is_open, result_of, within
 from test_local import Client as LocalClient
@@ -30,10 +32,13 @@ MEMBERS = {
     "failed": ("job", "code"),
     "refused": ("connection", "code"),
     "granted": ("connection", "?tenant", "amount", "balance"),
+    "note": ("text",),
+    "lost": (),
+    "journal failed": (),
 }
 SOCKETS = {"port", "socket", "grants", "tenant"}
 TENANTS = {"alice", "bob"}
-ENDS = {"input", "stopped", "frame too large", "timeout", "cut", "memory"}
+ENDS = {"input", "stopped", "frame too large", "timeout", "cut", "journal", "memory"}
 PIPE_ROOM = 4096
 
 
@@ -47,7 +52,10 @@ def lines_of(text):
         assert list(told) == wanted, line
         words = {"event": MEMBERS, "socket": SOCKETS, "end": ENDS, "version": {VERSION}, "tenant": TENANTS}
         for name, value in told.items():
-            assert value in words[name] if name in words else type(value) is int and value >= 0, line
+            if name == "text":
+                assert isinstance(value, str), line
+            else:
+                assert value in words[name] if name in words else type(value) is int and value >= 0, line
         assert json.dumps(told, separators=(",", ":")) == line, line
         lines.append(told)
     return lines
@@ -77,17 +85,17 @@ def read_to_end(stream):
 
 
 class Log(unittest.TestCase):
-    def serve(self, *words, sessions=1, workers=2, stdin=subprocess.DEVNULL):
+    def serve(self, *words, sessions=1, workers=2, **how):
         """A server with a log, which is read at its end."""
         more = ("--log", *words)
-        server = Server(sessions=sessions, workers=workers, more=more, stdin=stdin, stderr=subprocess.PIPE)
+        server = Server(sessions=sessions, workers=workers, more=more, stderr=subprocess.PIPE, **how)
         self.addCleanup(server.process.stderr.close)
         return server
 
     def ended(self, server):
-        """The lines of a server that ends."""
+        """The lines of a server that ends, beside the note that it takes connections."""
         text = server.process.communicate(timeout=PATIENCE)[1]
-        return lines_of(text.decode())
+        return events_past_listening(lines_of(text.decode()), server.process.args)
 
     def test_a_connection_and_its_jobs(self):
         began = time.time()
@@ -128,7 +136,7 @@ class Log(unittest.TestCase):
             client.ask(b"\xffZQ\xff")
             client.stream.close()
             text = server.process.communicate(timeout=PATIENCE)[1].decode()
-        lines = lines_of(text)
+        lines = events_past_listening(lines_of(text), server.process.args)
         self.assertEqual([line["event"] for line in lines], ["ready", "opened", "granted", "started", "ended", *["refused"] * 5, "closed", "stopping"])
         for trace in ("ZQ", "zq", name, mark.hex(), code_of(ADD).hex(), b"ZQprogram".hex()):
             self.assertNotIn(trace, text)
@@ -268,6 +276,37 @@ class Log(unittest.TestCase):
 
         beside_a_long_job(check)
 
+    def test_jobs_that_wait_at_the_end(self):
+        """Once the last connection is over, the job that runs goes on to its end, and those that wait aren't begun. A
+        journal has them open, and a later server begins them."""
+        def check(programs, credit):
+            with tempfile.TemporaryDirectory() as room:
+                journal = os.path.join(room, "journal")
+                with self.serve("--journal", journal, workers=1) as server:
+                    client = Client(server)
+                    client.ask({"op": "grant", "tenant": "t", "amount": credit + 6})
+                    client.ask(submit_text(programs, credit, b""))
+                    for job in (2, 3):
+                        self.assertEqual(client.ask(submit_text([(0, code_of(ADD))], 3, b"")), {"job": job, "ok": True})
+                    client.stream.close()
+                    lines = self.ended(server)
+                    self.assertEqual(server.process.returncode, 0)
+                begun = [line["job"] for line in told(lines, "started")]
+                self.assertEqual([line["job"] for line in told(lines, "ended")], begun)
+                if len(begun) > 1:
+                    return False
+                self.assertEqual({2, 3} & set(book_of(read(journal)).ends), set())
+                with self.serve("--journal", journal, workers=1) as server:
+                    client = Client(server)
+                    self.assertEqual([result_of(client, job)["spent"] for job in (2, 3)], [3, 3])
+                    self.assertTrue(result_of(client, 1)["ok"])
+                    client.stream.close()
+                    lines = self.ended(server)
+                self.assertLessEqual({2, 3}, {line["job"] for line in told(lines, "started")})
+            return True
+
+        beside_a_long_job(check)
+
     def end_each_way(self, server, seconds):
         """Six connections, each of which ends in another way."""
         account = frame(json.dumps({"op": "account", "tenant": "t"}))
@@ -289,7 +328,7 @@ class Log(unittest.TestCase):
             with within(seconds, begun):
                 stream.sendall(account * 2 + account[:-1])
             read_to_end(stream)
-        with within(seconds, time.monotonic()), server.connect() as stream:  # reset
+        with within(seconds, time.monotonic()), server.connect() as stream:  # reset, which ends the input
             stream.sendall(account)
             is_read(stream, 8)
             stream.setsockopt(socket.SOL_SOCKET, socket.SO_LINGER, struct.pack("ii", 1, 0))
@@ -306,12 +345,39 @@ class Log(unittest.TestCase):
                 lines = self.end_each_way(server, seconds)
             closed = told(lines, "closed")
             self.assertEqual([line["connection"] for line in closed], [1, 2, 3, 4, 5, 6])
-            self.assertEqual([(line["code"], line["end"]) for line in closed[1:]], [(0, "input"), (71, "frame too large"), (83, "timeout"), (83, "cut"), (84, "timeout")])
+            self.assertEqual([(line["code"], line["end"]) for line in closed[1:]], [(0, "input"), (71, "frame too large"), (83, "timeout"), (0, "input"), (84, "timeout")])
             self.assertEqual([line["requests"] for line in closed[1:5]], [3, 1, 2, 1])
             (silent,) = [line for line in lines if line["event"] == "closed" and line["connection"] == 4]
             self.assertGreaterEqual(silent["ms"], 1000 * seconds)
 
         by_timeouts(check)
+
+    def end_by_a_call(self, call, error):
+        """How a connection ends of which the second such call fails so, the notes, and the status."""
+        words = ["-e", f"trace={call}", "-e", f"inject={call}:error={error}:when=2+"]
+        with self.serve(ahead=["strace", "-f", "-qq", "-o", "/dev/null", *words]) as server:
+            client = Client(server)
+            account = {"op": "account", "tenant": "t"}
+            self.assertEqual(client.ask(account)["code"], 74)
+            with contextlib.suppress(ConnectionResetError, BrokenPipeError):
+                client.send(account)
+            client.stream.close()
+            lines = self.ended(server)
+        (closed,) = told(lines, "closed")
+        return closed["code"], closed["end"], [line["text"] for line in told(lines, "note")], server.process.returncode
+
+    @unittest.skipUnless(shutil.which("strace"), "needs Debian's strace")
+    def test_calls_that_fail(self):
+        """A read or a write that the system refuses is a fault. One that is refused since the client has let the connection
+        go is the end of its input."""
+        for call, code, fault in (("recvfrom", 83, "read failed"), ("sendto", 84, "write failed")):
+            for error in ("EIO", "ETIMEDOUT", "EHOSTUNREACH"):
+                with self.subTest(call=call, error=error):
+                    wanted = code, "timeout" if error == "ETIMEDOUT" else "cut", [f"a connection was given up: {code}: {fault}"], 3
+                    self.assertEqual(self.end_by_a_call(call, error), wanted)
+            for error in ("ECONNRESET", "EPIPE"):
+                with self.subTest(call=call, error=error):
+                    self.assertEqual(self.end_by_a_call(call, error), (0, "input", [], 0))
 
     def test_a_server_that_its_host_stops(self):
         with self.serve("--until-eof", sessions=100, stdin=subprocess.PIPE) as server:
@@ -354,14 +420,10 @@ class Log(unittest.TestCase):
             client = Client(server)
             for job in range(1, jobs + 1):
                 self.assertEqual(result_of(client, job)["spent"], 3)
-            # now somebody reads: the next line tells how many were dropped
+            # now somebody reads: a line tells how many were dropped
             text = b""
             while b'"lost":' not in text:
-                if not text:
-                    client.ask(submit_text([(0, code_of(ADD))], 3, b"", tenant="nobody"))
                 text += os.read(reads, 1 << 16)
-                time.sleep(0.001)
-                client.ask(submit_text([(0, code_of(ADD))], 3, b"", tenant="nobody"))
             client.stream.close()
             while part := os.read(reads, 1 << 16):
                 text += part
@@ -390,6 +452,22 @@ class Log(unittest.TestCase):
                 self.assertEqual(answer.count(b'"code":74'), 100)
             self.assertEqual(server.process.wait(PATIENCE), 0)
 
+    def test_a_note_is_one_line(self):
+        """Whatever stands in a path. In JSON it is told as it is."""
+        with tempfile.TemporaryDirectory() as room:
+            path = os.path.join(room, 'two\nlines, a\ttab, "quotes" and \\')
+            with open(path, "w", encoding="ascii") as file:
+                file.write("no journal\n")
+            note = f"{path}: no journal, and left as it is: it is taken for a text"
+            for words in ((), ("--log",)):
+                with self.subTest(words), Server(more=("--journal", path, *words), stderr=subprocess.PIPE) as server:
+                    text = server.process.communicate(timeout=PATIENCE)[1].decode()
+                    self.assertEqual(server.process.returncode, 3)
+                    if words:
+                        self.assertEqual(told(lines_of(text), "note"), [{"text": note}])
+                    else:
+                        self.assertEqual(text, "bpfjobs: " + note.replace("\n", " ").replace("\t", " ") + "\n")
+
     def test_nothing_is_told_unasked(self):
         for words in ((), ("--clients", 2), ("--timeout", PATIENCE, "--until-eof")):
             with self.subTest(words):
@@ -401,7 +479,8 @@ class Log(unittest.TestCase):
                     client.ask(submit_text([(0, code_of(ADD))], 30, b""))
                     client.stream.close()
                     server.exchange(b"\xff" * 8)
-                    self.assertEqual(server.process.communicate(timeout=PATIENCE)[1], b"")
+                    told_at_all = server.process.communicate(timeout=PATIENCE)[1].decode()
+                    self.assertEqual(past_listening(told_at_all, server.process.args), "")
 
     def test_by_sockets(self):
         with tempfile.TemporaryDirectory() as room:
@@ -411,7 +490,7 @@ class Log(unittest.TestCase):
                     self.assertTrue(client.ask({"op": "grant", "tenant": "t", "amount": 10})["ok"])
                 with LocalClient(path, process) as client:
                     self.assertFalse(client.ask({"op": "grant", "tenant": "t", "amount": 10})["ok"])
-                lines = lines_of(process.communicate(timeout=PATIENCE)[1].decode())
+                lines = events_past_listening(lines_of(process.communicate(timeout=PATIENCE)[1].decode()), process.args)
                 self.assertEqual(told(lines, "opened"), [{"connection": 1, "socket": "grants"}, {"connection": 2, "socket": "socket"}])
                 self.assertEqual([line["requests"] for line in told(lines, "closed")], [1, 1])
                 self.assertEqual([line["connection"] for line in told(lines, "granted")], [1])
@@ -420,7 +499,7 @@ class Log(unittest.TestCase):
                 for _ in range(2):
                     with LocalClient(path, process) as client:
                         client.ask({"op": "account", "tenant": "t"})
-                lines = lines_of(process.communicate(timeout=PATIENCE)[1].decode())
+                lines = events_past_listening(lines_of(process.communicate(timeout=PATIENCE)[1].decode()), process.args)
                 self.assertEqual([line["socket"] for line in told(lines, "opened")], ["socket"] * 2)
 
     def local(self, path, *words):

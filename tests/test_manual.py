@@ -56,7 +56,7 @@ class Manual(unittest.TestCase):
 class Completions(unittest.TestCase):
     def test_commands(self):
         self.assertEqual(completed("bpfjobs", "dis"), ["disassemble"])
-        self.assertEqual(sorted(completed("bpfjobs", "help", "")), ["assemble", "disassemble", "journal", "play", "run", "serve", "verify"])
+        self.assertEqual(sorted(completed("bpfjobs", "help", "")), ["ask", "assemble", "disassemble", "journal", "play", "run", "serve", "verify"])
 
     def test_options(self):
         self.assertEqual(completed("bpfjobs", "serve", "--p"), ["--port"])

@@ -31,6 +31,9 @@ LINES = [
     '{"time":1795737600105,"event":"refused","connection":1,"code":75}',
     '{"time":1795737600106,"event":"failed","job":2002,"code":81}',
     '{"time":1795737600109,"event":"closed","connection":2,"requests":5,"code":0,"end":"input","ms":9}',
+    '{"time":1795737600110,"event":"note","text":"journal: compacted from 1048600 to 900 bytes"}',
+    '{"time":1795737600111,"event":"journal failed"}',
+    '{"time":1795737600112,"event":"lost","lost":2}',
 ]
 TOLD = {
     'telgovan_info{version="0.1.0"}': 1,
@@ -52,7 +55,8 @@ TOLD = {
     'telgovan_credit_spent_total{tenant="bob"}': 7,
     'telgovan_credit_returned_total{tenant="bob"}': 2,
     'telgovan_tasks_total{tenant="bob"}': 4,
-    "telgovan_log_lines_lost_total": 3,
+    "telgovan_notes_total": 1,
+    "telgovan_log_lines_lost_total": 5,
     "telgovan_log_lines_unknown_total": 0,
     "telgovan_job_seconds_sum": 0.1,
     "telgovan_job_seconds_count": 1,
@@ -103,7 +107,7 @@ class Metrics(unittest.TestCase):
             file.flush()
             process, port = self.start("--tenants", file.name)
             self.write(process, *LINES)
-            self.assertEqual(self.until(port, "telgovan_requests_total", 5), TOLD)
+            self.assertEqual(self.until(port, "telgovan_log_lines_lost_total", 5), TOLD)
 
     def test_a_restart_and_what_is_no_line(self):
         process, port = self.start()

@@ -237,7 +237,7 @@ class Connections(unittest.TestCase):
                         stream.sendall(frame(ACCOUNT) * 1000)
             (account,) = server.ask(ACCOUNT)
             self.assertEqual(account, {"balance": 6600, "granted": 6600, "ok": True, "open": 0, "spent": 0})
-            self.assertIn(server.status(), (0, 3))
+            self.assertEqual(server.status(), 0)
 
     def test_jobs_outlast_their_connection(self):
         submit = next(request for request, reply in dialog("jobs_told.txt") if reply == '{"job":1,"ok":true}')

@@ -55,9 +55,10 @@ class Refused(Paths):
 
     def test_the_longest_path(self):
         longest = self.long_path(LONGEST)
-        self.assertEqual(self.serve("--socket", longest), (0, ""))
-        self.assertEqual(self.serve("--socket", self.path, "--grants", longest), (0, ""))
-        self.assertEqual(self.serve("--socket", self.path, "--tenant", f"a={longest}"), (0, ""))
+        told = f"bpfjobs: listening on {self.path} for 1 connection\n"
+        self.assertEqual(self.serve("--socket", longest), (0, told.replace(self.path, longest)))
+        self.assertEqual(self.serve("--socket", self.path, "--grants", longest), (0, told))
+        self.assertEqual(self.serve("--socket", self.path, "--tenant", f"a={longest}"), (0, told))
 
     def test_paths_of_tenants(self):
         wrong = "a socket's path has 1 to 104 bytes, none of them 0"
@@ -84,7 +85,8 @@ class Refused(Paths):
 
     def test_names_in_two_folders(self):
         os.mkdir(os.path.join(self.room, "other"))
-        self.assertEqual(self.serve("--socket", self.path, "--grants", f"{self.room}/other/jobs"), (0, ""))
+        told = f"bpfjobs: listening on {self.path} for 1 connection\n"
+        self.assertEqual(self.serve("--socket", self.path, "--grants", f"{self.room}/other/jobs"), (0, told))
 
 
 class Grants(Paths):
@@ -110,7 +112,7 @@ class Grants(Paths):
 
     def test_one_that_was_left_behind(self):
         """Also in the folder in which it is made."""
-        os.mkdir(f"{self.grants}~")
+        os.mkdir(f"{self.grants}~", mode=0o700)
         with socket.socket(socket.AF_UNIX) as left:
             left.bind(f"{self.grants}~/s")
         for _ in range(2):
@@ -125,6 +127,39 @@ class Grants(Paths):
         self.assertEqual(self.serve("--socket", self.path, "--grants", self.grants)[0], 3)
         with open(f"{self.grants}~", encoding="utf-8") as file:
             self.assertEqual(file.read(), "kept")
+
+    def each_stays(self, prepare, remove):
+        """What stands in the place of a socket's folder isn't the server's: it stays, and a line tells so."""
+        for path in (self.path, self.grants, f"{self.room}/a"):
+            with self.subTest(path):
+                prepare(f"{path}~")
+                before = os.lstat(f"{path}~")
+                status, line = self.serve("--socket", self.path, "--grants", self.grants, "--tenant", f"a={self.room}/a")
+                self.assertEqual((status, line.count("\n")), (3, 1), line)
+                self.assertTrue(line.startswith(f"bpfjobs: cannot listen on {path}: "), line)
+                after = os.lstat(f"{path}~")
+                self.assertEqual((after.st_ino, after.st_mode, after.st_uid), (before.st_ino, before.st_mode, before.st_uid))
+                remove(f"{path}~")
+
+    def test_a_folder_that_others_may_enter_stays(self):
+        for mode in (0o701, 0o710, 0o755, 0o777):
+            def prepare(folder, mode=mode):
+                os.mkdir(folder)
+                os.chmod(folder, mode)
+
+            self.each_stays(prepare, os.rmdir)
+
+    @unittest.skipIf(os.geteuid() != 0, "needs root, to give a folder to another user")
+    def test_a_folder_of_another_user_stays(self):
+        def prepare(folder):
+            os.mkdir(folder, mode=0o700)
+            os.chown(folder, NOBODY, NOBODY)
+
+        self.each_stays(prepare, os.rmdir)
+
+    def test_a_link_to_a_folder_stays(self):
+        os.mkdir(f"{self.room}/other", mode=0o700)
+        self.each_stays(lambda folder: os.symlink("other", folder), os.unlink)
 
     @unittest.skipIf(os.geteuid() != 0, "needs root, to connect as another user")
     def test_no_other_user_connects_at_any_moment(self):

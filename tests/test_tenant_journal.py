@@ -15,7 +15,7 @@ import tempfile
 import unittest
 
 from journal_load import DoorLoads, good_jobs
-from journals import TenantKeeper, book_of, payloads_of, read, starts_of, traced
+from journals import TenantKeeper, book_of, failed_lines, payloads_of, read, starts_of, traced
 from patience import PATIENCE
 from programs import assemble
 from test_clients import is_open
@@ -388,8 +388,7 @@ class Failing(Room):
         for other in others:
             with self.assertRaises((ConnectionResetError, BrokenPipeError)):
                 other.told(account("alice"))
-        lines = self.server.process.stderr.read().decode()
-        self.assertEqual(lines, f"bpfjobs: {self.server.file('alice')}: it can't be written, or not be synced\n")
+        self.assertEqual(self.server.lines(), failed_lines(self.server.file("alice")))
         self.server.process.stderr.close()
         self.server.process = None
         self.assertEqual(told, 1000 // 26)

@@ -11,7 +11,7 @@ import unittest
 
 from journals import Raw
 from patience import PATIENCE, wait_for
-from programs import BPFJOBS, Server, assemble, frame, job_text, submit_text
+from programs import BPFJOBS, Server, assemble, events_past_listening, frame, job_text, listening, submit_text
 from rows import code_of
 from test_clients import beside_a_long_job, is_open, long_job
 from test_local import told
@@ -839,6 +839,19 @@ class Shares(Room):
         wait_for(lambda: self.is_served(process, "alice"), "room for a connection more")
         self.assertEqual(held[0].ask(account("x")), NO_TENANT)
 
+    def test_a_connection_over_a_share_uses_up_no_session(self):
+        process = self.start("--clients", 9, "--sessions", 4, "--grants", self.path("grants"), *self.words("alice", "bob"))
+        held = [self.connect(process, "alice") for _ in range(2)]
+        for client in held:
+            self.assertEqual(client.ask(account("x")), NO_TENANT)
+        for _ in range(10):
+            self.assertFalse(self.is_served(process, "alice"))
+        held += [self.connect(process, name) for name in ("bob", "all")]
+        for client in held:
+            self.assertEqual(client.ask(account("x")), NO_TENANT)
+            client.stream.close()
+        self.assertEqual(process.wait(PATIENCE), 0)
+
     def test_a_socket_may_have_all_places_where_they_are_few(self):
         process = self.start("--clients", 7, "--grants", self.path("grants"), *self.words("alice", "bob"))
         held = [self.connect(process, "alice") for _ in range(6)]
@@ -957,7 +970,7 @@ class Ends(Room):
         with self.connect(process) as everybody:
             everybody.ask(account("bob"))
         text = process.communicate(timeout=PATIENCE)[1].decode()
-        lines = [json.loads(line) for line in text.splitlines()]
+        lines = events_past_listening(map(json.loads, text.splitlines()), process.args)
         self.assertEqual([line["socket"] for line in told_of(lines, "opened")], ["grants", "tenant", "socket"])
         # the pool's number of a job: its own and the tenant's place
         self.assertEqual([line["job"] for line in told_of(lines, "started") + told_of(lines, "ended")], [1002, 1002])
@@ -965,7 +978,9 @@ class Ends(Room):
         self.assertEqual([line["connection"] for line in told_of(lines, "started")], [2])
         self.assertEqual(told_of(lines, "refused"), [{"connection": 3, "code": 74}])
         self.assertEqual(text.count("bob"), 1)
-        self.assertFalse("alice" in text or "zoe" in text or self.room in text)
+        # the place where it listens is the configuration's
+        self.assertEqual(text.count(self.room), listening(process.args).count(self.room))
+        self.assertFalse("alice" in text or "zoe" in text)
 
     def test_each_tenant_has_its_turn(self):
         """One worker, kept busy while a tenant submits many jobs and another one: that one waits for one of the many, not for all."""

@@ -3,7 +3,7 @@ _bpfjobs() {
     local word=${COMP_WORDS[COMP_CWORD]} previous=${COMP_WORDS[COMP_CWORD - 1]}
     COMPREPLY=()
     if ((COMP_CWORD == 1)); then
-        mapfile -t COMPREPLY < <(compgen -W "assemble disassemble verify play run serve journal help --help --version" -- "$word")
+        mapfile -t COMPREPLY < <(compgen -W "assemble disassemble verify play run serve journal ask help --help --version" -- "$word")
         return
     fi
     case ${COMP_WORDS[1]} in
@@ -43,7 +43,14 @@ _bpfjobs() {
         [[ $word == -* ]] || { mapfile -t COMPREPLY < <(compgen -f -- "$word"); return; }
         mapfile -t COMPREPLY < <(compgen -W "--check --help" -- "$word")
         ;;
-    help) mapfile -t COMPREPLY < <(compgen -W "assemble disassemble verify play run serve journal" -- "$word") ;;
+    ask)
+        case $previous in
+        --socket) mapfile -t COMPREPLY < <(compgen -f -- "$word"); return ;;
+        --port | --wait | --key | --from) return ;;
+        esac
+        mapfile -t COMPREPLY < <(compgen -W "--port --socket --wait --key --from --help" -- "$word")
+        ;;
+    help) mapfile -t COMPREPLY < <(compgen -W "assemble disassemble verify play run serve journal ask" -- "$word") ;;
     esac
 }
 complete -o filenames -F _bpfjobs bpfjobs

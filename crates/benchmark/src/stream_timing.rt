@@ -217,6 +217,7 @@ where
         &rt,
         || {
             let plan = Plan {
+                place: "a port",
                 workers: 1,
                 sessions: 2,
                 bounds: Bounds {

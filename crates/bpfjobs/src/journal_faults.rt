@@ -1,12 +1,16 @@
-//! The reasons why a journal's file isn't gone on with, and the lines that tell them.
+//! The reasons why a journal's file isn't gone on with, and the words that tell them.
 
 use crate::foreign_file::TakenFor;
+use crate::host_notes::tell_host;
 use bpfjobs_cli::FAILED;
 use journal::{HEADER_LEN, first_record};
 use keyed_desk::{KeyedChange, KeyedDesk};
 use recovery::{OpenFault, RecoverFault, StateChange, StateMachine};
+use server_log::ServerLog;
 use std::alloc::Global;
-use std::io;
+use std::sync::Wait;
+use std::time::Clock;
+use std::{fmt, io};
 
 /// Bytes of checksum that a search for records behind a torn one may take: some ten seconds.
 pub const SEARCH_BUDGET: usize = 1 << 32;
@@ -34,39 +38,51 @@ impl From<io::Error> for FileFault {
     }
 }
 
-// Tells why a file isn't gone on with.
-fn tell_fault<R: Eprint>(rt: &R, path: &str, fault: FileFault) {
-    let _ = match fault {
-        FileFault::System(error) => eprintln!(rt; "bpfjobs: {path}: {error}"),
-        FileFault::NoRegularFile => eprintln!(rt; "bpfjobs: {path}: no regular file"),
-        FileFault::NoJournal(taken_for) => {
-            let text = taken_for.text();
-            eprintln!(rt; "bpfjobs: {path}: no journal, and left as it is: it is taken for {text}")
+impl fmt::Display for FileFault {
+    fn fmt<W: fmt::Write>(&self, f: &mut fmt::Formatter<W>) -> fmt::Result {
+        match self {
+            FileFault::System(error) => write!(f, "{error}"),
+            FileFault::NoRegularFile => write!(f, "no regular file"),
+            FileFault::NoJournal(taken_for) => {
+                let text = taken_for.text();
+                write!(f, "no journal, and left as it is: it is taken for {text}")
+            }
+            FileFault::InUse => write!(f, "in use by another server"),
+            FileFault::NoMemory => write!(f, "no memory for what it has"),
+            FileFault::Damaged { at, record_at } => write!(
+                f,
+                "damaged at byte {at}: a whole record stands at byte {record_at}"
+            ),
+            FileFault::Unsearched { at } => write!(
+                f,
+                "no record at byte {at}, and too much behind it to look for one"
+            ),
+            FileFault::NotAChange { at } => write!(
+                f,
+                "damaged at byte {at}: the record there is no change of a desk"
+            ),
+            FileFault::NotAllowed { at } => write!(
+                f,
+                "damaged at byte {at}: the record there doesn't follow from those ahead"
+            ),
+            FileFault::NotCut => write!(f, "it can't be cut, or not be synced"),
+            FileFault::NotReplaced => write!(
+                f,
+                "it isn't known whether a snapshot has its name: start again"
+            ),
         }
-        FileFault::InUse => eprintln!(rt; "bpfjobs: {path}: in use by another server"),
-        FileFault::NoMemory => eprintln!(rt; "bpfjobs: {path}: no memory for what it has"),
-        FileFault::Damaged { at, record_at } => eprintln!(rt;
-            "bpfjobs: {path}: damaged at byte {at}: a whole record stands at byte {record_at}"
-        ),
-        FileFault::Unsearched { at } => eprintln!(rt;
-            "bpfjobs: {path}: no record at byte {at}, and too much behind it to look for one"
-        ),
-        FileFault::NotAChange { at } => eprintln!(rt;
-            "bpfjobs: {path}: damaged at byte {at}: the record there is no change of a desk"
-        ),
-        FileFault::NotAllowed { at } => eprintln!(rt;
-            "bpfjobs: {path}: damaged at byte {at}: the record there doesn't follow from those ahead"
-        ),
-        FileFault::NotCut => eprintln!(rt; "bpfjobs: {path}: it can't be cut, or not be synced"),
-        FileFault::NotReplaced => eprintln!(rt;
-            "bpfjobs: {path}: it isn't known whether a snapshot has its name: start again"
-        ),
-    };
+    }
 }
 
-/// Tells why a file isn't gone on with, and gives the status.
-pub fn refused<R: Eprint>(rt: &R, path: &str, fault: FileFault) -> u8 {
-    tell_fault(rt, path, fault);
+/// Tells a server's host why a file isn't gone on with, and gives the status.
+pub fn refused<R: Wait + Clock>(
+    rt: &R,
+    alloc: Global,
+    notes: &ServerLog,
+    path: &str,
+    fault: FileFault,
+) -> u8 {
+    tell_host(rt, notes, format!(in alloc; "{path}: {fault}"));
     FAILED
 }
 

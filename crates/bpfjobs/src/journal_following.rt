@@ -4,7 +4,9 @@ ghost use Rattle.std.specs.Prelude.{◌≡◌, ◌<◌, false, length};
 ghost use Rattle.std.specs.Arc.{arc_value};
 ghost use Rattle.shared_journal.specs.Places.{AreFollowed};
 
+use crate::host_notes::tell_host;
 use crate::journal_compacting::{tell_compacted, tell_kept};
+use server_log::ServerLog;
 use shared_journal::{Compaction, JournalFollower, SharedJournal};
 use std::alloc::Global;
 use std::fs::{File, Files};
@@ -36,31 +38,45 @@ impl Model for JournalFollowers {
 }
 
 // Tells what came of a journal that was to be compacted.
-fn tell<R: Eprint>(rt: &R, path: &str, compaction: Compaction) {
+fn tell<R: Wait + Clock>(
+    rt: &R,
+    alloc: Global,
+    log: &ServerLog,
+    path: &str,
+    compaction: Compaction,
+) {
     match compaction {
         Compaction::NotNeeded => {}
-        Compaction::Replaced { old, new } => tell_compacted(rt, path, old, new),
-        Compaction::Kept(why) => tell_kept(rt, path, why),
+        Compaction::Replaced { old, new } => tell_compacted(rt, alloc, log, path, old, new),
+        Compaction::Kept(why) => tell_kept(rt, alloc, log, path, why),
         Compaction::Unknown => {
-            let _ = eprintln!(rt;
-                "bpfjobs: {path}: it isn't known whether a snapshot has its name"
-            );
+            let text = format!(in alloc; "{path}: it isn't known whether a snapshot has its name");
+            tell_host(rt, log, text);
         }
     }
 }
 
 // Tells that a journal isn't compacted any more, unless it has failed: then its end is told elsewhere, in
 // a moment.
-fn tell_lost<R: Clock + Eprint>(rt: &R, path: &str, journal: &SharedJournal) {
+fn tell_lost<R: Wait + Clock>(
+    rt: &R,
+    alloc: Global,
+    log: &ServerLog,
+    path: &str,
+    journal: &SharedJournal,
+) {
     thread::sleep(rt, Duration::from_millis(BETWEEN_LOOKS));
     if !journal.has_failed() {
-        let _ = eprintln!(rt; "bpfjobs: {path}: not compacted any more: no memory for a record");
+        let text = format!(in alloc; "{path}: not compacted any more: no memory for a record");
+        tell_host(rt, log, text);
     }
 }
 
 // Replays what is new of a journal, and compacts it where that is due.
-fn tend<R: Wait + Clock + Files<File = File> + Eprint>(
+fn tend<R: Wait + Clock + Files<File = File>>(
     rt: &R,
+    alloc: Global,
+    log: &ServerLog,
     path: &str,
     journal: &SharedJournal,
     follower: &mut JournalFollower,
@@ -73,17 +89,20 @@ fn tend<R: Wait + Clock + Files<File = File> + Eprint>(
     }
     follower.catch_up(rt, journal);
     if follower.is_lost() {
-        tell_lost(rt, path, journal);
+        tell_lost(rt, alloc, log, path, journal);
         return;
     }
     if follower.is_due() {
-        tell(rt, path, follower.compact(rt, journal, path));
+        let compaction = follower.compact(rt, journal, path);
+        tell(rt, alloc, log, path, compaction);
     }
 }
 
 // Looks at the journal at a place.
-fn tend_at<R: Wait + Clock + Files<File = File> + Eprint>(
+fn tend_at<R: Wait + Clock + Files<File = File>>(
     rt: &R,
+    alloc: Global,
+    log: &ServerLog,
     paths: &[String],
     journals: &[SharedJournal],
     followers: &mut Vec<JournalFollower>,
@@ -93,7 +112,14 @@ fn tend_at<R: Wait + Clock + Files<File = File> + Eprint>(
     ensures { AreFollowed followers.new.items journals.now }
 {
     if at < paths.len() && at < journals.len() && at < followers.len() {
-        tend(rt, &paths[at], &journals[at], &mut followers[at]);
+        tend(
+            rt,
+            alloc,
+            log,
+            &paths[at],
+            &journals[at],
+            &mut followers[at],
+        );
     }
 }
 
@@ -113,11 +139,24 @@ impl JournalFollowers {
         }
     }
 
-    /// Looks at each journal again and again.
-    pub fn follow<R: Wait + Clock + Files<File = File> + Eprint>(mut self, rt: &R) {
+    /// Looks at each journal again and again. A log is told of what is compacted.
+    pub fn follow<R: Wait + Clock + Files<File = File>>(
+        mut self,
+        rt: &R,
+        alloc: Global,
+        log: &ServerLog,
+    ) {
         for _ in rt.forever() {
             for at in 0..self.followers.len() {
-                tend_at(rt, &self.paths, &self.journals, &mut self.followers, at);
+                tend_at(
+                    rt,
+                    alloc,
+                    log,
+                    &self.paths,
+                    &self.journals,
+                    &mut self.followers,
+                    at,
+                );
             }
             thread::sleep(rt, Duration::from_millis(BETWEEN_LOOKS));
         }

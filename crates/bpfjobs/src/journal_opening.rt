@@ -11,6 +11,7 @@ ghost use Rattle.keyed_desk.specs.KeyedSteps.{IsNewKeyed, MakesKeyed};
 ghost use Rattle.compaction.specs.Snapshots.{LeadsToHistory};
 
 use crate::foreign_file::taken_for;
+use crate::host_notes::tell_host;
 use crate::journal_compacting::compacted;
 use crate::journal_faults::{FileFault, SEARCH_BUDGET, fault_of, refused};
 use crate::journal_following::JournalFollowers;
@@ -20,12 +21,14 @@ use journal_file::{FileLog, folder_of};
 use keyed_desk::{KeyedDesk, open_keyed_journal};
 use recovery::Recovered;
 use refusal::NoMemory;
+use server_log::ServerLog;
 use shared_journal::{JournalFollower, SharedJournal};
 use std::alloc::Global;
 use std::fs::{File, Files, TryLockError};
 use std::io::Read;
 use std::os::unix::fs::{MetadataExt, OpenOptionsExt};
-use std::sync::Arc;
+use std::sync::{Arc, Wait};
+use std::time::Clock;
 use std::{fs, io};
 
 // The permissions of a new journal, which has what tenants submitted: its owner alone reads it.
@@ -94,9 +97,10 @@ fn locked_contents<R: Files<File = File>>(
 }
 
 // The first bytes, so many. Others behind them are kept beside the file first, as a line tells.
-fn first_bytes<R: Files<File = File> + Eprint>(
+fn first_bytes<R: Files<File = File> + Wait + Clock>(
     rt: &R,
     alloc: Global,
+    notes: &ServerLog,
     path: &str,
     mut bytes: Vec<u8>,
     len: usize,
@@ -107,9 +111,10 @@ fn first_bytes<R: Files<File = File> + Eprint>(
         let cut = bytes.len() - len;
         let kept = keep_torn(rt, alloc, path, bytes.split_at(len).1)?;
         sync_name(rt, path)?;
-        let _ = eprintln!(rt;
-            "bpfjobs: {path}: cut off {cut} bytes of a torn record, which {kept} has"
+        let text = format!(in alloc;
+            "{path}: cut off {cut} bytes of a torn record, which {kept} has"
         );
+        tell_host(rt, notes, text);
     }
     bytes.truncate(len);
     Ok(bytes)
@@ -117,9 +122,10 @@ fn first_bytes<R: Files<File = File> + Eprint>(
 
 // The desk that a file's records lead to, and a log that goes on right behind them, with its bytes:
 // what stands there is cut off. Where a snapshot of the desk is much shorter, the log is that instead.
-fn replayed<R: Files<File = File> + Eprint>(
+fn replayed<R: Files<File = File> + Wait + Clock>(
     rt: &R,
     alloc: Global,
+    notes: &ServerLog,
     path: &str,
     file: File,
     bytes: Vec<u8>,
@@ -139,18 +145,19 @@ fn replayed<R: Files<File = File> + Eprint>(
     if let Some(taken_for) = taken_for(&bytes) {
         return Err(FileFault::NoJournal(taken_for));
     }
-    let whole = first_bytes(rt, alloc, path, bytes, len)?;
+    let whole = first_bytes(rt, alloc, notes, path, bytes, len)?;
     let Ok(log) = FileLog::open(alloc, file, &whole) else {
         return Err(FileFault::NotCut);
     };
-    let (log, journal) = compacted(rt, alloc, path, log, &machine, whole)?;
+    let (log, journal) = compacted(rt, alloc, notes, path, log, &machine, whole)?;
     Ok((log, journal, machine))
 }
 
 // The same from the file's path, for the desk at a place.
-fn opened<R: Files<File = File> + Eprint>(
+fn opened<R: Files<File = File> + Wait + Clock>(
     rt: &R,
     alloc: Global,
+    notes: &ServerLog,
     place: usize,
     path: &str,
 ) -> Result<OpenedJournal, FileFault>
@@ -158,7 +165,7 @@ fn opened<R: Files<File = File> + Eprint>(
 {
     let (file, bytes) = locked_contents(rt, alloc, path)?;
     sync_name(rt, path)?;
-    let (log, bytes, desk) = replayed(rt, alloc, path, file, bytes)?;
+    let (log, bytes, desk) = replayed(rt, alloc, notes, path, file, bytes)?;
     let Ok((journal, follower)) = SharedJournal::new(alloc, place, log, bytes) else {
         return Err(FileFault::NoMemory);
     };
@@ -182,23 +189,25 @@ fn examine<R: Files<File = File>>(rt: &R, alloc: Global, path: &str) -> Result<(
 }
 
 // Looks whether each of several files may be gone on with, before any of them is changed.
-fn examine_all<R: Files<File = File> + Eprint>(
+fn examine_all<R: Files<File = File> + Wait + Clock>(
     rt: &R,
     alloc: Global,
+    notes: &ServerLog,
     paths: &[String],
 ) -> Result<(), u8> {
     for path in paths {
         if let Err(fault) = examine(rt, alloc, path) {
-            return Err(refused(rt, path, fault));
+            return Err(refused(rt, alloc, notes, path, fault));
         }
     }
     Ok(())
 }
 
 // The journals in these files, who follows each, and the desks that their records lead to.
-fn open_each<R: Files<File = File> + Eprint>(
+fn open_each<R: Files<File = File> + Wait + Clock>(
     rt: &R,
     alloc: Global,
+    notes: &ServerLog,
     paths: &[String],
 ) -> Result<(Vec<SharedJournal>, Vec<JournalFollower>, Vec<KeyedDesk>), u8>
     ensures count { IfOk result (λ opened. (length opened.0.items ≡ length paths.now)
@@ -214,18 +223,18 @@ fn open_each<R: Files<File = File> + Eprint>(
             journal,
             follower,
             desk,
-        } = match opened(rt, alloc, journals.len(), path) {
+        } = match opened(rt, alloc, notes, journals.len(), path) {
             Ok(opened) => opened,
-            Err(fault) => return Err(refused(rt, path, fault)),
+            Err(fault) => return Err(refused(rt, alloc, notes, path, fault)),
         };
         let Ok(()) = journals.push(journal) else {
-            return Err(refused(rt, path, FileFault::NoMemory));
+            return Err(refused(rt, alloc, notes, path, FileFault::NoMemory));
         };
         let Ok(()) = followers.push(follower) else {
-            return Err(refused(rt, path, FileFault::NoMemory));
+            return Err(refused(rt, alloc, notes, path, FileFault::NoMemory));
         };
         let Ok(()) = desks.push(desk) else {
-            return Err(refused(rt, path, FileFault::NoMemory));
+            return Err(refused(rt, alloc, notes, path, FileFault::NoMemory));
         };
     }
     Ok((journals, followers, desks))
@@ -268,9 +277,10 @@ fn opened_with(
 }
 
 // The journals in these files, the first of which is named so, and who follows them.
-fn open_journals<R: Files<File = File> + Eprint>(
+fn open_journals<R: Files<File = File> + Wait + Clock>(
     rt: &R,
     alloc: Global,
+    notes: &ServerLog,
     path: &str,
     paths: Vec<String>,
 ) -> Result<(OpenedJournals, JournalFollowers), u8>
@@ -278,12 +288,12 @@ fn open_journals<R: Files<File = File> + Eprint>(
         (λ opened. length (arc_value opened.0.journals).items ≡ length paths.items) }
 {
     if paths.len() > 1 {
-        examine_all(rt, alloc, &paths)?;
+        examine_all(rt, alloc, notes, &paths)?;
     }
-    let (journals, followers, desks) = open_each(rt, alloc, &paths)?;
+    let (journals, followers, desks) = open_each(rt, alloc, notes, &paths)?;
     match opened_with(alloc, paths, journals, followers, desks) {
         Ok(opened) => Ok(opened),
-        Err(NoMemory) => Err(refused(rt, path, FileFault::NoMemory)),
+        Err(NoMemory) => Err(refused(rt, alloc, notes, path, FileFault::NoMemory)),
     }
 }
 
@@ -294,9 +304,10 @@ fn open_journals<R: Files<File = File> + Eprint>(
 ///
 /// Where one of them isn't gone on with, a line names it and tells why, and the program ends with this
 /// status. A file that was there is then as it was, unless one changed while they were opened.
-pub fn open_server_journals<R: Files<File = File> + Eprint>(
+pub fn open_server_journals<R: Files<File = File> + Wait + Clock>(
     rt: &R,
     alloc: Global,
+    notes: &ServerLog,
     server: &Serve,
 ) -> Result<Option<(OpenedJournals, JournalFollowers)>, u8>
     ensures { IfOk result (λ opened. IfSome opened (λ some. length (arc_value some.0.journals).items
@@ -306,9 +317,9 @@ pub fn open_server_journals<R: Files<File = File> + Eprint>(
         return Ok(None);
     };
     let Ok(paths) = journal_paths(alloc, path, &server.tenants.tenants) else {
-        return Err(refused(rt, path, FileFault::NoMemory));
+        return Err(refused(rt, alloc, notes, path, FileFault::NoMemory));
     };
-    match open_journals(rt, alloc, path, paths) {
+    match open_journals(rt, alloc, notes, path, paths) {
         Ok(opened) => Ok(Some(opened)),
         Err(status) => Err(status),
     }

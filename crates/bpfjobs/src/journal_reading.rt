@@ -1,7 +1,7 @@
 //! The records of a journal's file as text, and the verdict on it. The file is only read.
 
 use crate::foreign_file::taken_for;
-use crate::journal_faults::{FileFault, SEARCH_BUDGET, damaged, fault_of, refused};
+use crate::journal_faults::{FileFault, SEARCH_BUDGET, damaged, fault_of};
 use bpfjobs_cli::FAILED;
 use journal::TailKind;
 use journal_text::{JournalEnd, RecordCount, check_journal, write_changes};
@@ -19,6 +19,12 @@ fn contents<R: Files + AllocGlobal>(rt: &R, path: &str) -> Result<Vec<u8>, FileF
         return Err(FileFault::NoRegularFile);
     }
     Ok(fs::read(rt, path)?)
+}
+
+// Tells why a file is no journal, or not a whole one, and gives the status.
+fn refused<R: Eprint>(rt: &R, path: &str, fault: FileFault) -> u8 {
+    let _ = eprintln!(rt; "bpfjobs: {path}: {fault}");
+    FAILED
 }
 
 // Tells a torn record, which begins at this byte of a journal, and gives the status. A file that begins

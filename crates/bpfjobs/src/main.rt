@@ -2,17 +2,22 @@
 //! tells its commands.
 #![tactic(auto)]
 
-ghost use Rattle.bpfjobs_cli.specs.Commands.{IsInRange};
+ghost use Rattle.bpfjobs_cli.specs.Commands.{IsInRange, IsServeInRange};
 ghost use Rattle.bpfjobs_cli.specs.Performing.{NeedsNoThread};
-ghost use Rattle.std.specs.Prelude.{◌≡◌, ◌≤◌, ℕ, IfSome, length};
+ghost use Rattle.std.specs.Prelude.{◌≡◌, ◌≤◌, ℕ, IfOk, IfSome, length};
 ghost use Rattle.std.specs.Arc.{arc_value};
+ghost use Rattle.bpfjobs.specs.Listening.{IsBeginningOf};
 
+mod asking;
+mod beginning;
 mod foreign_file;
+mod host_notes;
 mod journal_compacting;
 mod journal_faults;
 mod journal_following;
 mod journal_opening;
 mod journal_reading;
+mod listening;
 mod server_threads;
 mod serving;
 mod showing;
@@ -21,22 +26,29 @@ mod standard_files;
 mod tenant_file;
 mod torn_records;
 
+use asking::ask_server;
+use beginning::{Beginning, begin};
 use bpfjobs_cli::{
-    Command, CommandRequest, FAILED, UNREAD, perform, perform_alone, print_usage, request, words,
+    Command, CommandRequest, FAILED, Serve, UNREAD, perform, perform_alone, print_usage, request,
+    words,
 };
-use journal_following::JournalFollowers;
-use journal_opening::{OpenedJournals, open_server_journals};
+use host_notes::tell_host;
+use job_server::ServeFault;
 use journal_reading::print_journal;
-use server_threads::handles_of;
+use server_log::ServerLog;
+use server_threads::log_of;
 use serving::serve;
 use showing::{play_shown, run_shown};
 use socket_names::have_names_of_their_own;
 use standard_files::fill_gaps;
 use std::alloc::{AllocError, Global};
-use std::fs::Files;
+use std::env::Env;
+use std::fs::{File, Files};
+use std::net::{Net, TcpListener, TcpStream};
 use std::process::ExitCode;
-use std::sync::Wait;
+use std::sync::{Arc, Wait};
 use std::thread::Threads;
+use std::time::Clock;
 use std::{io, thread};
 use streams::Tap;
 use tenant_file::with_file;
@@ -90,68 +102,121 @@ where
     }
 }
 
-// The journals of a server, and who follows them.
-fn parts_of(
-    opened: Option<(OpenedJournals, JournalFollowers)>,
-) -> (Option<OpenedJournals>, Option<JournalFollowers>)
-    ensures { (many : ℕ) → IfSome opened (λ some. length (arc_value some.0.journals).items ≡ many)
-        → IfSome result.0 (λ some. length (arc_value some.journals).items ≡ many) }
+// The server that the words ask for. Every other command is carried out, and gives its status, as
+// words do that are refused.
+fn server_of<R>(rt: &R, alloc: Global) -> Result<Serve, u8>
+where
+    R: Env
+        + Input
+        + Print
+        + Eprint
+        + Files
+        + Net<Stream = TcpStream, Listener = TcpListener>
+        + Threads
+        + Wait
+        + Clock
+        + Sync
+        + AllocGlobal,
+    ensures { IfOk result (λ server. IsServeInRange server) }
 {
-    match opened {
-        Some((opened, followers)) => (Some(opened), Some(followers)),
-        None => (None, None),
-    }
-}
-
-// The threads beside a server are started here, where the runtime is of a type that may go to them.
-fn main(rt: HostRuntime) -> ExitCode {
-    let alloc = rt.alloc();
-    let Ok(_filled) = fill_gaps(&rt, alloc) else {
-        return ExitCode::from(FAILED);
-    };
-    let Ok(words) = words(&rt) else {
-        return ExitCode::from(UNREAD);
+    let Ok(words) = words(rt) else {
+        return Err(UNREAD);
     };
     let request = match request(alloc, &words) {
         Ok(request) => request,
-        Err(usage) => return ExitCode::from(print_usage(&rt, usage)),
+        Err(usage) => return Err(print_usage(rt, usage)),
     };
-    if let Some(status) = show(&rt, &request) {
-        return ExitCode::from(status);
+    if let Some(status) = show(rt, &request) {
+        return Err(status);
     }
     let server = match request.command {
         Command::Serve(server) => server,
-        Command::Run { workers } => return ExitCode::from(run(&rt, alloc, workers)),
+        Command::Run { workers } => return Err(run(rt, alloc, workers)),
         Command::Journal { path, checks } => {
-            return ExitCode::from(print_journal(&rt, alloc, &path, checks));
+            return Err(print_journal(rt, alloc, &path, checks));
         }
-        command => return ExitCode::from(answer(&rt, alloc, command)),
+        Command::Ask(ask) => return Err(ask_server(rt, alloc, &ask)),
+        command => return Err(answer(rt, alloc, command)),
     };
-    let server = match with_file(&rt, alloc, server) {
+    let server = match with_file(rt, alloc, server) {
+        Ok(server) => server,
+        Err(status) => return Err(status),
+    };
+    match have_names_of_their_own(rt, alloc, &server) {
+        Ok(()) => Ok(server),
+        Err(status) => Err(status),
+    }
+}
+
+// Tells the host that a thread beside a server is missing, and gives the status.
+fn tell_no_thread<R: Wait + Clock>(rt: &R, alloc: Global, log: &ServerLog) -> u8 {
+    tell_host(rt, log, format!(in alloc; "{}", ServeFault::Threads));
+    FAILED
+}
+
+// Serves, once the threads beside the server are there.
+fn serve_begun<R>(rt: &R, alloc: Global, log: &ServerLog, server: &Serve, begun: Beginning) -> u8
+where
+    R: Net<Stream = TcpStream, Listener = TcpListener>
+        + Files<File = File>
+        + Threads
+        + Wait
+        + Clock
+        + Sync,
+    requires range { IsServeInRange server.now }
+    requires begun { IsBeginningOf server.now.tenants.tenants.items begun }
+{
+    let Beginning {
+        opened,
+        doors,
+        listening,
+        stop,
+    } = begun;
+    let stop = match &stop {
+        Some(stop) => Some(&**stop),
+        None => None,
+    };
+    serve(rt, alloc, server, &doors, listening, stop, log, opened)
+}
+
+// The threads beside a server are started here, where the runtime is of a type that may go to them.
+// From the log's on, all lines to the host are the log's: whatever ends the server then closes it.
+fn main(rt: HostRuntime) -> ExitCode {
+    let alloc = rt.alloc();
+    let Ok(_filled) = fill_gaps(&rt, alloc) else {
+        let _ = eprintln!(rt;
+            "bpfjobs: descriptor 0, 1 or 2 is closed, and there is no /dev/null for it"
+        );
+        return ExitCode::from(FAILED);
+    };
+    let server = match server_of(&rt, alloc) {
         Ok(server) => server,
         Err(status) => return ExitCode::from(status),
     };
-    if let Err(status) = have_names_of_their_own(&rt, alloc, &server) {
-        return ExitCode::from(status);
-    }
-    let opened = match open_server_journals(&rt, alloc, &server) {
-        Ok(opened) => opened,
-        Err(status) => return ExitCode::from(status),
-    };
-    let (opened, followers) = parts_of(opened);
-    let journals = match &opened {
-        Some(opened) => Some(&opened.journals),
-        None => None,
-    };
-    let Ok((handles, helpers)) = handles_of(&rt, alloc, &server, journals, followers) else {
+    let Ok((log, writer)) = log_of(&rt, alloc, server.options.logs) else {
+        let _ = eprintln!(rt; "bpfjobs: there is no memory for a log");
         return ExitCode::from(FAILED);
+    };
+    let Ok(_writing) = thread::spawn(&rt, move || writer.help(&rt)) else {
+        let _ = eprintln!(rt; "bpfjobs: {}", ServeFault::Threads);
+        return ExitCode::from(FAILED);
+    };
+    let (begun, helpers) = match begin(&rt, alloc, &log, &server) {
+        Ok(begun) => begun,
+        Err(status) => {
+            log.close(&rt);
+            return ExitCode::from(status);
+        }
     };
     for helper in helpers {
         let Ok(_thread) = thread::spawn(&rt, move || helper.help(&rt)) else {
-            return ExitCode::from(FAILED);
+            begun.listening.close(&rt, alloc);
+            let status = tell_no_thread(&rt, alloc, &log);
+            log.close(&rt);
+            return ExitCode::from(status);
         };
     }
-    let status = serve(&rt, alloc, &server, handles.stop(), handles.log(), opened);
-    handles.close(&rt);
+    let status = serve_begun(&rt, alloc, &log, &server, begun);
+    log.close(&rt);
     ExitCode::from(status)
 }

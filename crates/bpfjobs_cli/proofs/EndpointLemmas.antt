@@ -12,4 +12,5 @@ pub command_usage : (words : List Text) (name : Text) (rows : List Row) (u : Usa
 command_usage words name rows (usage.Refused error) none found refused = absurd refused
 command_usage words name rows (usage.Endpoint fault) none found refused = (none, rows, found ∙ ap (λ (n : Text). Some (n, rows)) refused.0, refused.1)
 command_usage words name rows (usage.Tenant word fault) none found refused = (none, rows, found ∙ ap (λ (n : Text). Some (n, rows)) refused.0, refused.1)
+command_usage words name rows (usage.Ask fault) none found refused = (none, rows, found ∙ ap (λ (n : Text). Some (n, rows)) refused.0, refused.1)
 command_usage words name rows usage.NoMemory none found refused = tt

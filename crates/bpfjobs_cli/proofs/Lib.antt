@@ -13,3 +13,4 @@ pub mod TenantLemmas
 pub mod EnteredLemmas
 pub mod TurnLemmas
 pub mod RangeLemmas
+pub mod AskLemmas

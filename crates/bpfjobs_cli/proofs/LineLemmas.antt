@@ -12,16 +12,20 @@ use Rattle.clap.specs.Faults.{fault_of, is_simple_and_free, level_fault}
 use Rattle.clap.specs.declared.builder.action.ArgAction.TheVariants as action
 use Rattle.clap.specs.declared.builder.value_parser.ValueParser.TheVariants as vp
 use Rattle.clap.proofs.OnLiterals.{clap_on_literals}
-use Rattle.bpfjobs_cli.specs.Commands.{AreOptionsOf, IsMaybeNumber, IsNumberIn, SaysCommand, says_assemble, says_disassemble, says_verify, says_play, says_run, says_serve, says_journal, sessions_said}
+use Rattle.bpfjobs_cli.specs.Commands.{AreOptionsOf, IsMaybeNumber, IsNumberIn, SaysCommand, says_assemble, says_disassemble, says_verify, says_play, says_run, says_serve, says_journal, says_ask, sessions_said}
 use Rattle.bpfjobs_cli.specs.declared.commands.ServeOptions.{ServeOptions}
-use Rattle.bpfjobs_cli.specs.Program.{bpfjobs_app, journal_app, journal_file_rule, need_rule, port_rule, run_app, play_app, serve_app, sessions_rule, tenant_jobs_rule, clients_rule, timeout_rule, open_jobs_rule, keep_rule, keep_bytes_rule, verify_app, workers_rule}
-use Rattle.bpfjobs_cli.proofs.NumberLemmas.{signed_number}
+use Rattle.bpfjobs_cli.specs.Program.{amount_rule, ask_app, bpfjobs_app, from_rule, wait_rule, word_rule, journal_app, journal_file_rule, need_rule, port_rule, run_app, play_app, serve_app, sessions_rule, tenant_jobs_rule, clients_rule, timeout_rule, open_jobs_rule, keep_rule, keep_bytes_rule, verify_app, workers_rule}
+use Rattle.bpfjobs_cli.proofs.NumberLemmas.{signed_number, unsigned_number}
 use Rattle.bpfjobs_cli.proofs.RowLemmas.{Among, Each, HasValue, IsOnly, On, both, default_value, maybe_value, required_value}
 use Rattle.bpfjobs_cli.proofs.SubcommandLemmas.{Gives, HasNoAlias, subcommand_gives}
 
 -- the rules as clap builds them
 abbrev rule : Rule → Rule
 rule r = with_index 1 (filled r)
+
+-- one that is the third word
+abbrev third : Rule → Rule
+third r = with_index 3 (filled r)
 
 -- a rule with another id
 other : {x y : Rule} → false ≡ true → x ≡ y
@@ -46,6 +50,18 @@ module _ (a : Rule) (low high : ℕ) (sets : action_of a ≡ action.Set) (wants 
       go (inl e) = (None, e)
       go (inr value) =
           let number = signed_number a low high _ parser value in
+          (Some number.0, number.1)
+
+-- the same of a number of 64 bits
+module _ (a : Rule) (low high : ℕ) (sets : action_of a ≡ action.Set) (wants : 1 ≤ (unwrap_or_range a.range).start_inclusive) (parser : a.parser ≡ Some (vp.Unsigned low high))
+    (s : Shape) (words : List Text) (only : Each (IsOnly a) s.rules) (none : level_fault s [] nothing_held words false [] ≡ []) where
+  may_be_long : (n : Option ℕ) × IsMaybeNumber (rows_after s.rules [] words) a.id low high n
+  may_be_long = go (maybe_value a sets wants s [] words false [] only none)
+    where
+      go : (one_of a.id (rows_after s.rules [] words) ≡ None) ⊎ HasValue a (rows_after s.rules [] words) → (n : Option ℕ) × IsMaybeNumber (rows_after s.rules [] words) a.id low high n
+      go (inl e) = (None, e)
+      go (inr value) =
+          let number = unsigned_number a low high _ parser value in
           (Some number.0, number.1)
 
 -- a subcommand as clap builds it
@@ -142,15 +158,30 @@ journal words own none =
     ((λ same. refl), (other, (other, tt))) none refl (inl refl) refl in
     says_journal refl (ap is_some value.2)
 
+ask : Gives SaysCommand (leaf ask_app.top)
+ask words own none =
+    let port = may_be (rule port_rule) 1 65535 refl (omega arith) refl (leaf ask_app.top) words
+    ((λ same. refl), (other, (other, (other, (other, (other, (other, (other, (other, tt))))))))) none in
+    let wait = left_out (rule wait_rule) 0 3600 refl (omega arith) refl (leaf ask_app.top) words
+    (other, (other, ((λ same. refl), (other, (other, (other, (other, (other, (other, tt))))))))) (inr (inr (inl refl))) none (omega arith) in
+    let value : HasValue (rule word_rule) (rows_after (leaf ask_app.top).rules [] words) =
+    required_value (rule word_rule) refl (omega arith) (leaf ask_app.top) [] words false []
+    (other, (other, (other, ((λ same. refl), (other, (other, (other, (other, (other, tt))))))))) none refl (inr (inr (inr (inl refl)))) refl in
+    let amount = may_be (third amount_rule) 1 2147483647 refl (omega arith) refl (leaf ask_app.top) words
+    (other, (other, (other, (other, (other, ((λ same. refl), (other, (other, (other, tt))))))))) none in
+    let from = may_be_long (rule from_rule) 1 18446744073709551615 refl (omega arith) refl (leaf ask_app.top) words
+    (other, (other, (other, (other, (other, (other, (other, ((λ same. refl), (other, tt))))))))) none in
+    says_ask refl (record { word = ap is_some value.2; port = port; wait = wait; amount = amount; from = from })
+
 -- clap's own subcommand, which gives help
 help : Gives SaysCommand (built_leaf help_shape)
 help words own none = absurd (true≢false own)
 
 gives : Each (Gives SaysCommand) (built bpfjobs_app).subs
-gives = (assemble, (disassemble, (verify, (play, (run, (serve, (journal, (help, tt))))))))
+gives = (assemble, (disassemble, (verify, (play, (run, (serve, (journal, (ask, (help, tt)))))))))
 
 aliases : Each HasNoAlias (built bpfjobs_app).subs
-aliases = (refl, (refl, (refl, (refl, (refl, (refl, (refl, (refl, tt))))))))
+aliases = (refl, (refl, (refl, (refl, (refl, (refl, (refl, (refl, (refl, tt)))))))))
 
 -- clap fails, or the line says a command
 pub says_command : (words : List Text) → fault_of bpfjobs_app words ≡ [] → (is_some (subcommand_of bpfjobs_app words) ≡ true) × On (λ p. SaysCommand p.0 p.1) (subcommand_of bpfjobs_app words)

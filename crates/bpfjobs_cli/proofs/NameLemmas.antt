@@ -1,5 +1,5 @@
 -- When a text is a tenant's name, and what is then wrong with a tenant.
-use Rattle.std.proofs.Common.{◌≡◌, ◌&&◌, ◌==◌, ◌∙◌, ℕ, ◌<◌, ◌≤◌, Bool, List, length, false, true, refl, sym, arith, Some, None, ne_eqb}
+use Rattle.std.proofs.Common.{◌≡◌, ◌&&◌, ◌∙◌, ℕ, ◌<◌, ◌≤◌, Bool, List, length, false, true, refl, sym, arith, Some, None}
 use Rattle.std.specs.Prelude.{nat_le, string_bytes}
 use Rattle.std.specs.List.{list_all, list_any}
 use Rattle.std.specs.Str.{IsUtf8, bytes_eq, is_utf8}

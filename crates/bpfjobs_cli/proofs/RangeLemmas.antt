@@ -1,9 +1,9 @@
 -- The numbers of a command that words say are in range, and its tenants apart.
-use Rattle.std.proofs.Common.{◌≡◌, ◌∙◌, ◌⊎◌, ◌≤◌, ◌==◌, ℕ, Bool, cond, true, false, List, [], ◌∷◌, Option, Some, None, Ok, Err, Global, String, string_bytes, option_map, unwrap_or, codes, inl, inr, refl, ap, sym, subst, arith}
+use Rattle.std.proofs.Common.{◌≤◌, ◌==◌, ℕ, Bool, cond, true, false, List, [], Option, Some, None, codes, sym, subst, arith}
 use Rattle.std.specs.Prelude.{IfSome}
-use Rattle.clap.specs.Words.{Row, Text, all_of}
+use Rattle.clap.specs.Words.{Row, Text}
 use Rattle.bpfjobs_cli.specs.declared.commands.Command.{Command}
-use Rattle.bpfjobs_cli.specs.declared.commands.Command.TheVariants.{Assemble, Disassemble, Verify, Play, Run, Serve, Journal}
+use Rattle.bpfjobs_cli.specs.declared.commands.Command.TheVariants.{Assemble, Disassemble, Verify, Play, Run, Serve, Journal, Ask}
 use Rattle.bpfjobs_cli.specs.declared.commands.Endpoint.{Endpoint}
 use Rattle.bpfjobs_cli.specs.declared.commands.Endpoint.TheVariants.{Port, Socket}
 use Rattle.bpfjobs_cli.specs.declared.tenant_socket.TenantSocket.{TenantSocket}
@@ -56,3 +56,4 @@ command_range name rows (Serve serve) is = record {
   keep_bytes = is.1.options.keep_bytes.most;
 }
 command_range name rows (Journal path checks) is = tt
+command_range name rows (Ask ask) is = (endpoint_range rows ask.endpoint is.1.endpoint, is.1.wait.most)

@@ -84,6 +84,7 @@ module _ (ts : List NamedTenant) (n : ℕ) (words : List (Bor (List ℕ))) (none
   word_wrong e (usage.Tenant told f) wrong tells =
       let why : fault_said ts s ≡ Some f = subst (RefusesSaid ts s) tells.1 wrong in
       (n, this_word ∙ entered_stops ts n s (words_said (texts (drop (n + 1) words))) f why, place ∙ ap Some (sym tells.0))
+  word_wrong e (usage.Ask fault) wrong tells = absurd tells
   word_wrong e usage.NoMemory wrong tells = tt
 
   pub word_more : (after : List NamedTenant) → TakesSaid ts s after → entered [] 0 (words_said (texts words)) ≡ entered after (n + 1) (words_said (texts (drop (n + 1) words)))

@@ -1,12 +1,19 @@
 -- The command that a subcommand and its matches are.
-use Rattle.std.specs.Prelude.{◌≡◌, ◌==◌, ◌↔◌, ◌⊎◌, ℕ, ◌≤◌, if◌then◌else◌, IfSome, Bool, IsTrue, List, [], codes, Ok, unwrap_or, Option, Some, None, is_some, option_map, String, string_bytes, false, true}
+use Rattle.std.specs.Prelude.{◌≡◌, ◌==◌, ◌↔◌, ◌⊎◌, ℕ, ◌≤◌, ◌<◌, ◌^◌, if◌then◌else◌, IfSome, Bool, IsTrue, List, [], codes, Ok, unwrap_or, Option, Some, None, is_some, option_and_then, option_map, String, string_bytes, false, true}
 use Rattle.std.specs.declared.alloc.Global.{Global}
 use Rattle.std.specs.Str.Parse.{IsNumeral, digits_value, without_leading_plus}
 use Rattle.clap.specs.Faults.{fault_of}
 use Rattle.clap.specs.Words.{HasKind, Row, Text, all_of, first_of, kind_of, one_of, subcommand_of, takes}
 use Rattle.clap.specs.declared.error.kind.ErrorKind.TheVariants.{DisplayHelp, DisplayVersion, OutOfMemory}
+use Rattle.bpfjobs_cli.specs.declared.ask.Ask.{Ask as Asking}
+use Rattle.bpfjobs_cli.specs.declared.ask.AskFault.{AskFault}
+use Rattle.bpfjobs_cli.specs.declared.ask.AskFault.TheVariants as ask_fault
+use Rattle.bpfjobs_cli.specs.declared.ask.AskWord.{AskWord}
+use Rattle.bpfjobs_cli.specs.declared.ask.AskWord.TheVariants as word
+use Rattle.bpfjobs_cli.specs.declared.ask.ServerQuestion.{ServerQuestion}
+use Rattle.bpfjobs_cli.specs.declared.ask.ServerQuestion.TheVariants as question
 use Rattle.bpfjobs_cli.specs.declared.commands.Command.{Command}
-use Rattle.bpfjobs_cli.specs.declared.commands.Command.TheVariants.{Assemble, Disassemble, Verify, Play, Run, Serve, Journal}
+use Rattle.bpfjobs_cli.specs.declared.commands.Command.TheVariants.{Assemble, Disassemble, Verify, Play, Run, Serve, Journal, Ask}
 use Rattle.bpfjobs_cli.specs.declared.commands.Endpoint.{Endpoint}
 use Rattle.bpfjobs_cli.specs.declared.commands.Endpoint.TheVariants.{Port, Socket}
 use Rattle.bpfjobs_cli.specs.declared.commands.EndpointFault.{EndpointFault}
@@ -19,6 +26,7 @@ use Rattle.bpfjobs_cli.specs.declared.journal_sync.JournalSync.{JournalSync}
 use Rattle.bpfjobs_cli.specs.declared.tenant_socket.TenantFault.{TenantFault}
 use Rattle.bpfjobs_cli.specs.declared.tenant_socket.TenantWords.{TenantWords}
 use Rattle.bpfjobs_cli.specs.declared.commands.Usage.TheVariants as usage
+use Rattle.bpfjobs_cli.specs.AskWords.{ask_word, words_fit}
 use Rattle.bpfjobs_cli.specs.JournalSyncs.{sync_by}
 use Rattle.bpfjobs_cli.specs.Program.{bpfjobs_app}
 use Rattle.bpfjobs_cli.specs.Tenants.{AreTenants, IsWrongWord, entered, is_socket_path, tenants_in, words_said}
@@ -164,6 +172,74 @@ pub record IsServeOf (rows : List Row) (serve : Server) : Type 0 where
   pub journal_sync : IsSyncOf rows serve.journal_sync
   pub options : AreOptionsOf rows serve.options
 
+-- the word of the question
+abbrev pub IsAskWordOf : List Row → AskWord → Type 0
+IsAskWordOf rows w = option_and_then ask_word (first_of (codes "word") rows) ≡ Some w
+
+-- the number of a job that a text is
+abbrev pub IsJobNumber : Text → ℕ → Type 0
+IsJobNumber text job =
+    IsNumeral 10 (without_leading_plus text) × (job ≡ digits_value 10 (without_leading_plus text))
+    × (job < 2 ^ 64)
+
+-- the number of the job that the words name
+abbrev pub IsAskedJobOf : List Row → ℕ → Type 0
+IsAskedJobOf rows job =
+    (text : Text) × (first_of (codes "subject") rows ≡ Some text) × IsJobNumber text job
+
+abbrev pub IsAskedTextOf : List Row → Text → Option (String Global) → Type 0
+IsAskedTextOf rows id text = first_of id rows ≡ option_map string_bytes text
+
+-- the amount, and the number of the first job of a listing, if the words say them
+abbrev pub IsAmountOf : List Row → Option ℕ → Type 0
+IsAmountOf rows amount = IsMaybeNumber rows (codes "amount") 1 2147483647 amount
+
+abbrev pub IsFromOf : List Row → Option ℕ → Type 0
+IsFromOf rows from = IsMaybeNumber rows (codes "from") 1 18446744073709551615 from
+
+-- the question that the words say
+abbrev pub IsQuestionOf : List Row → ServerQuestion → Type 0
+IsQuestionOf rows (question.Account tenant) =
+    IsAskWordOf rows word.Account × IsAskedTextOf rows (codes "subject") tenant
+IsQuestionOf rows (question.Submit tenant key) =
+    IsAskWordOf rows word.Submit × IsAskedTextOf rows (codes "subject") tenant
+    × IsAskedTextOf rows (codes "key") key
+IsQuestionOf rows (question.Status job) = IsAskWordOf rows word.Status × IsAskedJobOf rows job
+IsQuestionOf rows (question.Result job) = IsAskWordOf rows word.Result × IsAskedJobOf rows job
+IsQuestionOf rows (question.Jobs from) = IsAskWordOf rows word.Jobs × IsFromOf rows from
+IsQuestionOf rows (question.Grant tenant amount) =
+    IsAskWordOf rows word.Grant × (first_of (codes "subject") rows ≡ Some (string_bytes tenant))
+    × IsAmountOf rows (Some amount)
+IsQuestionOf rows question.Server = IsAskWordOf rows word.Server
+IsQuestionOf rows question.Stop = IsAskWordOf rows word.Stop
+
+-- what else the words say goes with the word
+abbrev pub AreFit : List Row → AskWord → Bool → Type 0
+AreFit rows w fit =
+    (amount from : Option ℕ) × IsAmountOf rows amount × IsFromOf rows from
+    × (words_fit w (is_some (first_of (codes "subject") rows)) (is_some amount)
+    (is_some (first_of (codes "key") rows)) (is_some from) ≡ fit)
+
+-- a request to a server that runs
+pub record IsAskOf (rows : List Row) (ask : Asking) : Type 0 where
+  pub endpoint : IsEndpointOf rows ask.endpoint
+  pub wait : IsNumberIn rows (codes "wait") 0 3600 ask.wait
+  pub question : IsQuestionOf rows ask.question
+  pub fit : (w : AskWord) × IsAskWordOf rows w × AreFit rows w true
+
+-- the words name no number of a job
+abbrev pub NamesNoJob : List Row → Type 0
+NamesNoJob rows =
+    (text : Text) × (first_of (codes "subject") rows ≡ Some text)
+    × ((job : ℕ) → IsJobNumber text job → ⊥)
+
+-- the words name no place of a server, or are no question
+abbrev pub IsAskFault : List Row → AskFault → Type 0
+IsAskFault rows ask_fault.Place = (f : EndpointFault) × IsEndpointFault rows f
+IsAskFault rows ask_fault.Words =
+    (option_and_then ask_word (first_of (codes "word") rows) ≡ None)
+    ⊎ ((w : AskWord) × IsAskWordOf rows w × AreFit rows w false) ⊎ NamesNoJob rows
+
 abbrev pub IsCommandOf : Text → List Row → Command → Type 0
 IsCommandOf name rows Assemble = name ≡ codes "assemble"
 IsCommandOf name rows Disassemble = name ≡ codes "disassemble"
@@ -176,6 +252,7 @@ IsCommandOf name rows (Serve serve) = (name ≡ codes "serve") × IsServeOf rows
 IsCommandOf name rows (Journal path checks) =
     (name ≡ codes "journal") × (first_of (codes "file") rows ≡ Some (string_bytes path))
     × IsFlagOf rows (codes "check") checks
+IsCommandOf name rows (Ask ask) = (name ≡ codes "ask") × IsAskOf rows ask
 
 -- what is shown beside the answer
 pub record IsShownOf (rows : List Row) (shown : Shown) : Type 0 where
@@ -190,6 +267,14 @@ pub record SaysServe (rows : List Row) : Type 0 where
   pub jobs : (n : Option ℕ) × IsMaybeNumber rows (codes "tenant-jobs") 1 1000000 n
   pub options : (o : ServeOptions) × AreOptionsOf rows o
 
+-- the words of `ask` are a word, and perhaps a port and numbers
+pub record SaysAsk (rows : List Row) : Type 0 where
+  pub word : HasText rows (codes "word")
+  pub port : (n : Option ℕ) × IsMaybeNumber rows (codes "port") 1 65535 n
+  pub wait : (n : ℕ) × IsNumberIn rows (codes "wait") 0 3600 n
+  pub amount : (n : Option ℕ) × IsAmountOf rows n
+  pub from : (n : Option ℕ) × IsFromOf rows n
+
 -- they are those of a command, but for a server's endpoint
 pub data SaysCommand (name : Text) (rows : List Row) : Type 0 where
   says_assemble : name ≡ codes "assemble" → SaysCommand name rows
@@ -201,6 +286,7 @@ pub data SaysCommand (name : Text) (rows : List Row) : Type 0 where
       → ((workers : ℕ) × IsNumberIn rows (codes "workers") 1 16 workers) → SaysCommand name rows
   says_serve : name ≡ codes "serve" → SaysServe rows → SaysCommand name rows
   says_journal : name ≡ codes "journal" → HasText rows (codes "file") → SaysCommand name rows
+  says_ask : name ≡ codes "ask" → SaysAsk rows → SaysCommand name rows
 
 -- the port is in range
 abbrev pub IsEndpointInRange : Endpoint → Type 0
@@ -231,25 +317,46 @@ IsInRange Play = Unit {0}
 IsInRange (Run workers) = (1 ≤ workers) × (workers ≤ 16)
 IsInRange (Serve serve) = IsServeInRange serve
 IsInRange (Journal path checks) = Unit {0}
+IsInRange (Ask ask) = IsEndpointInRange ask.endpoint × (ask.wait ≤ 3600)
+
+-- the place of a server is refused for want of memory, or for what the words say of it
+abbrev pub IsPlaceUsage : List Row → Usage → Type 0
+IsPlaceUsage rows (usage.Refused error) = ⊥
+IsPlaceUsage rows (usage.Endpoint fault) = IsEndpointFault rows fault
+IsPlaceUsage rows (usage.Tenant word f) = ⊥
+IsPlaceUsage rows (usage.Ask fault) = ⊥
+IsPlaceUsage rows usage.NoMemory = Unit {0}
+
+-- the words of `ask` are refused for want of memory, or for their own
+abbrev pub IsAskUsage : List Row → Usage → Type 0
+IsAskUsage rows (usage.Refused error) = ⊥
+IsAskUsage rows (usage.Endpoint fault) = ⊥
+IsAskUsage rows (usage.Tenant word f) = ⊥
+IsAskUsage rows (usage.Ask fault) = IsAskFault rows fault
+IsAskUsage rows usage.NoMemory = Unit {0}
 
 -- the options of a server are refused for want of memory, for their endpoint, or for a tenant
 abbrev pub IsEndpointUsage : List Row → Usage → Type 0
 IsEndpointUsage rows (usage.Refused error) = ⊥
 IsEndpointUsage rows (usage.Endpoint fault) = IsEndpointFault rows fault
 IsEndpointUsage rows (usage.Tenant word f) = IsTenantFault rows (string_bytes word) f
+IsEndpointUsage rows (usage.Ask fault) = ⊥
 IsEndpointUsage rows usage.NoMemory = Unit {0}
 
--- the words of a command are refused for want of memory, or as the options of a server
+-- the words of a command are refused for want of memory, as the options of a server, or as the
+-- words of `ask`
 abbrev pub IsCommandUsage : Text → List Row → Usage → Type 0
 IsCommandUsage name rows (usage.Refused error) = ⊥
 IsCommandUsage name rows (usage.Endpoint fault) =
     (name ≡ codes "serve") × IsEndpointFault rows fault
 IsCommandUsage name rows (usage.Tenant word f) =
     (name ≡ codes "serve") × IsTenantFault rows (string_bytes word) f
+IsCommandUsage name rows (usage.Ask fault) = (name ≡ codes "ask") × IsAskFault rows fault
 IsCommandUsage name rows usage.NoMemory = Unit {0}
 
--- Words that clap takes are refused for want of memory, or where a server's options name no
--- endpoint or a word names no tenant. Any others are refused for want of memory, or for a fault that clap finds in them.
+-- Words that clap takes are refused for want of memory, where a server's options name no endpoint or
+-- a word names no tenant, or where those of `ask` are no request. Any others are refused for want of
+-- memory, or for a fault that clap finds in them.
 abbrev pub IsUsage : Usage → List Text → Type 0
 IsUsage (usage.Refused error) words =
     (takes bpfjobs_app words ≡ true → kind_of error ≡ OutOfMemory)
@@ -261,6 +368,9 @@ IsUsage (usage.Tenant word f) words =
     (fault_of bpfjobs_app words ≡ []) × (rows : List Row)
     × (subcommand_of bpfjobs_app words ≡ Some (codes "serve", rows))
     × IsTenantFault rows (string_bytes word) f
+IsUsage (usage.Ask fault) words =
+    (fault_of bpfjobs_app words ≡ []) × (rows : List Row)
+    × (subcommand_of bpfjobs_app words ≡ Some (codes "ask", rows)) × IsAskFault rows fault
 IsUsage usage.NoMemory words = Unit {0}
 
 -- the words ask for help, or for the version: that is no mistake
@@ -268,4 +378,5 @@ abbrev pub AsksHelp : Usage → Type 0
 AsksHelp (usage.Refused error) = (kind_of error ≡ DisplayHelp) ⊎ (kind_of error ≡ DisplayVersion)
 AsksHelp (usage.Endpoint fault) = ⊥
 AsksHelp (usage.Tenant word f) = ⊥
+AsksHelp (usage.Ask fault) = ⊥
 AsksHelp usage.NoMemory = ⊥

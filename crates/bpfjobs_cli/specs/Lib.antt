@@ -4,6 +4,8 @@ pub mod Tenants
 pub mod JournalPaths
 pub mod JournalSyncs
 pub mod Entries
+pub mod AskWords
+pub mod AskRequests
 pub mod Commands
 pub mod Printed
 pub mod Hexadecimal

@@ -3,7 +3,7 @@ use Rattle.std.specs.Prelude.{◌≡◌, ◌≤◌, ◌<◌, ◌⊎◌, ◌-◌,
 use Rattle.streams.specs.declared.fault.StreamFault.{StreamFault}
 use Rattle.streams.specs.declared.fault.StreamFault.TheVariants.{ReadFailed, WriteFailed, NoMemory}
 use Rattle.bpfjobs_cli.specs.declared.commands.Command.{Command}
-use Rattle.bpfjobs_cli.specs.declared.commands.Command.TheVariants.{Assemble, Disassemble, Verify, Play, Run, Serve, Journal}
+use Rattle.bpfjobs_cli.specs.declared.commands.Command.TheVariants.{Assemble, Disassemble, Verify, Play, Run, Serve, Journal, Ask}
 use Rattle.bpfjobs_cli.specs.Jobs.{PrintsPlay}
 use Rattle.bpfjobs_cli.specs.Programs.{PrintsAssembly, PrintsListing, PrintsVerdict}
 use Rattle.bpfjobs_cli.specs.Runs.{PrintsRun}
@@ -17,9 +17,10 @@ NeedsNoThread Play = Unit {0}
 NeedsNoThread (Run workers) = ⊥
 NeedsNoThread (Serve serve) = ⊥
 NeedsNoThread (Journal path checks) = ⊥
+NeedsNoThread (Ask ask) = ⊥
 
--- the command has an answer to its input: it is no server and reads no file, and a job has 1 to 16
--- threads
+-- the command has an answer to its input: it is no server, reads no file and asks no server, and a
+-- job has 1 to 16 threads
 abbrev pub AnswersInput : Command → Type 0
 AnswersInput Assemble = Unit {0}
 AnswersInput Disassemble = Unit {0}
@@ -28,6 +29,7 @@ AnswersInput Play = Unit {0}
 AnswersInput (Run workers) = (1 ≤ workers) × (workers ≤ 16)
 AnswersInput (Serve serve) = ⊥
 AnswersInput (Journal path checks) = ⊥
+AnswersInput (Ask ask) = ⊥
 
 -- the text and the status that a command answers to its input
 abbrev pub IsAnswer : Command → List ℕ → List ℕ → ℕ → Type 0
@@ -38,6 +40,7 @@ IsAnswer Play input text status = PrintsPlay input text status
 IsAnswer (Run workers) input text status = PrintsRun input text status
 IsAnswer (Serve serve) input text status = ⊥
 IsAnswer (Journal path checks) input text status = ⊥
+IsAnswer (Ask ask) input text status = ⊥
 
 -- What is left where a command is given up by this. Where the reader failed, or there was no
 -- memory, nothing is written; where the writer failed all input was read, and of the answer a part

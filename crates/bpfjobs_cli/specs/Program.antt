@@ -145,6 +145,36 @@ check_rule = record (new_rule (codes "check")) {
   action = Some SetTrue;
 }
 
+abbrev pub word_rule : Rule
+word_rule = record (new_rule (codes "word")) { value_names = 1; required = true }
+
+abbrev pub subject_rule : Rule
+subject_rule = record (new_rule (codes "subject")) { value_names = 1 }
+
+abbrev pub amount_rule : Rule
+amount_rule = record (new_rule (codes "amount")) {
+  value_names = 1;
+  parser = Some (vp.Signed (pos 1) (pos 2147483647));
+}
+
+abbrev pub wait_rule : Rule
+wait_rule = record (new_rule (codes "wait")) {
+  long = Some (codes "wait");
+  value_names = 1;
+  defaults = codes "0" ∷ [];
+  parser = Some (vp.Signed (pos 0) (pos 3600));
+}
+
+abbrev pub key_rule : Rule
+key_rule = record (new_rule (codes "key")) { long = Some (codes "key"); value_names = 1 }
+
+abbrev pub from_rule : Rule
+from_rule = record (new_rule (codes "from")) {
+  long = Some (codes "from");
+  value_names = 1;
+  parser = Some (vp.Unsigned 1 18446744073709551615);
+}
+
 abbrev pub verify_app : App
 verify_app = with_rule (new_app (codes "verify")) need_rule
 
@@ -165,6 +195,12 @@ serve_app =
 abbrev pub journal_app : App
 journal_app = with_rule (with_rule (new_app (codes "journal")) journal_file_rule) check_rule
 
+abbrev pub ask_app : App
+ask_app =
+    with_rule (with_rule (with_rule (with_rule (with_rule (with_rule (with_rule (with_rule
+    (new_app (codes "ask")) port_rule) socket_rule) wait_rule) word_rule) subject_rule) amount_rule)
+    key_rule) from_rule
+
 -- the program without its commands, which tells its version
 abbrev pub named_app : App
 named_app = record {
@@ -184,6 +220,6 @@ with_text_commands a =
 
 abbrev pub bpfjobs_app : App
 bpfjobs_app =
-    with_subcommand (with_subcommand (with_subcommand (with_subcommand
+    with_subcommand (with_subcommand (with_subcommand (with_subcommand (with_subcommand
     (with_subcommand (with_text_commands (requiring named_app)) verify_app.top) play_app.top)
-    run_app.top) serve_app.top) journal_app.top
+    run_app.top) serve_app.top) journal_app.top) ask_app.top

@@ -1,5 +1,6 @@
 //! The meaning of a command line's words: a command with its numbers, or why there is none.
 
+use crate::ask::{Ask, AskFault};
 use crate::journal_sync::JournalSync;
 use crate::tenant_socket::{TenantFault, TenantWords};
 use clap::Error;
@@ -22,6 +23,8 @@ pub enum Command {
     Serve(Serve),
     /// The records of the journal in a file, or, where it checks, the verdict on it.
     Journal { path: String, checks: bool },
+    /// A request to a server that runs.
+    Ask(Ask),
 }
 
 /// A server: where it listens, for which tenants apart, its journal and when that is synced, and its
@@ -148,6 +151,8 @@ pub enum Usage {
     Endpoint(EndpointFault),
     /// clap takes them, but this word names no tenant beside those before it.
     Tenant(String, TenantFault),
+    /// clap takes them, but they are no request to a server.
+    Ask(AskFault),
     /// A growth was refused: 99.
     NoMemory,
 }
@@ -169,6 +174,7 @@ impl Usage {
             Usage::Refused(error) => { if error.use_stderr() { MISTAKEN } else { 0 } }
             Usage::Endpoint(_) => MISTAKEN,
             Usage::Tenant(_, _) => MISTAKEN,
+            Usage::Ask(_) => MISTAKEN,
             Usage::NoMemory => MISTAKEN,
         }
     }

@@ -79,6 +79,7 @@ fn answer_to(alloc: Global, command: Command, input: &[u8]) -> Result<Answer, No
         Command::Run { .. } => unreachable!(),
         Command::Serve(_) => unreachable!(),
         Command::Journal { .. } => unreachable!(),
+        Command::Ask(_) => unreachable!(),
     }
 }
 
@@ -115,7 +116,7 @@ pub fn perform_alone<R: Source, W: Sink>(
     tell(writer, &answer)
 }
 
-/// Reads the whole input, writes the answer of any command but `serve` and `journal`, and gives the
+/// Reads the whole input, writes the answer of any command but `serve`, `journal` and `ask`, and gives the
 /// status: 0 answered, 1 refused. A `run` waits for its threads, so that of this call it isn't proved
 /// that it returns; of `perform_alone`, which all others go to, it is. The faults are the same.
 pub fn perform<T: Threads + Wait + Sync, R: Source, W: Sink>(
@@ -149,6 +150,7 @@ pub fn perform<T: Threads + Wait + Sync, R: Source, W: Sink>(
         }
         Command::Serve(_) => unreachable!(),
         Command::Journal { .. } => unreachable!(),
+        Command::Ask(_) => unreachable!(),
         alone => perform_alone(alloc, alone, reader, writer),
     }
 }

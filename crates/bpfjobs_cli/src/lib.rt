@@ -3,6 +3,9 @@
 //! answer: its steps along its schedule, and the tree of its tasks.
 #![tactic(auto)]
 
+mod ask;
+mod asked_request;
+mod asking;
 mod commands;
 mod desk_paths;
 mod journal_sync;
@@ -16,6 +19,8 @@ mod tenant_text;
 mod tenants;
 mod texts;
 
+pub use ask::{Ask, AskFault, ServerQuestion};
+pub use asked_request::{ask_frame, ask_request, reply_status};
 pub use commands::{
     Command, CommandRequest, Endpoint, EndpointFault, Serve, ServeOptions, Shown, Usage,
 };

@@ -40,6 +40,10 @@ pub fn print_usage<R: Print + Eprint>(rt: &R, usage: Usage) -> u8
             let text = fault.text();
             let _ = eprintln!(rt; "error: --tenant {word}: {text}");
         }
+        Usage::Ask(fault) => {
+            let text = fault.text();
+            let _ = eprintln!(rt; "{text}");
+        }
         Usage::NoMemory => {}
     }
     usage.status()

@@ -3,7 +3,7 @@
 ghost use Rattle.std.specs.Prelude.{◌≡◌, false, codes, IfOk};
 ghost use Rattle.clap.specs.Words.{app_of, new_app, rule_of};
 ghost use Rattle.clap.specs.declared.builder.command.Command.TheViews.{out-Command as fields_of};
-ghost use Rattle.bpfjobs_cli.specs.Program.{need_rule, port_rule, socket_rule, grants_rule, tenant_rule, tenants_rule, tenant_jobs_rule, workers_rule, sessions_rule, clients_rule, timeout_rule, open_jobs_rule, keep_rule, keep_bytes_rule, journal_rule, journal_sync_rule, until_eof_rule, log_rule, trace_rule, trace_json_rule, tree_rule, journal_file_rule, check_rule, named_app, verify_app, play_app, run_app, serve_app, journal_app, bpfjobs_app, with_text_commands};
+ghost use Rattle.bpfjobs_cli.specs.Program.{need_rule, port_rule, socket_rule, grants_rule, tenant_rule, tenants_rule, tenant_jobs_rule, workers_rule, sessions_rule, clients_rule, timeout_rule, open_jobs_rule, keep_rule, keep_bytes_rule, journal_rule, journal_sync_rule, until_eof_rule, log_rule, trace_rule, trace_json_rule, tree_rule, journal_file_rule, check_rule, word_rule, subject_rule, amount_rule, wait_rule, key_rule, from_rule, named_app, requiring, verify_app, play_app, run_app, serve_app, journal_app, ask_app, bpfjobs_app, with_text_commands};
 
 use crate::texts;
 use clap::{Arg, ArgAction, Command};
@@ -257,6 +257,68 @@ fn check<'a>(alloc: Global) -> Arg<'a>
         .help(texts::CHECK)
 }
 
+fn word<'a>(alloc: Global) -> Arg<'a>
+    ensures rule { rule_of result ≡ word_rule }
+    ensures local { result.global ≡ false }
+{
+    Arg::new(alloc, "word")
+        .value_name("WORD")
+        .help(texts::WORD)
+        .required(true)
+}
+
+fn subject<'a>(alloc: Global) -> Arg<'a>
+    ensures rule { rule_of result ≡ subject_rule }
+    ensures local { result.global ≡ false }
+{
+    Arg::new(alloc, "subject")
+        .value_name("TENANT|JOB")
+        .help(texts::SUBJECT)
+}
+
+fn amount<'a>(alloc: Global) -> Arg<'a>
+    ensures rule { rule_of result ≡ amount_rule }
+    ensures local { result.global ≡ false }
+{
+    Arg::new(alloc, "amount")
+        .value_name("AMOUNT")
+        .help(texts::AMOUNT)
+        .value_parser(clap::value_parser!(u32).range(1..=2147483647))
+}
+
+fn wait<'a>(alloc: Global) -> Arg<'a>
+    ensures rule { rule_of result ≡ wait_rule }
+    ensures local { result.global ≡ false }
+{
+    Arg::new(alloc, "wait")
+        .long("wait")
+        .value_name("SECONDS")
+        .help(texts::WAIT)
+        .value_parser(clap::value_parser!(u32).range(0..=3600))
+        .default_value("0")
+}
+
+fn key<'a>(alloc: Global) -> Arg<'a>
+    ensures rule { rule_of result ≡ key_rule }
+    ensures local { result.global ≡ false }
+{
+    Arg::new(alloc, "key")
+        .long("key")
+        .value_name("KEY")
+        .help(texts::KEY)
+}
+
+fn from<'a>(alloc: Global) -> Arg<'a>
+    ensures rule { rule_of result ≡ from_rule }
+    ensures local { result.global ≡ false }
+{
+    Arg::new(alloc, "from")
+        .long("from")
+        .value_name("NUMBER")
+        .help(texts::FROM)
+        .value_parser(clap::value_parser!(u64).range(1..))
+}
+
 // The program without its commands.
 fn top<'a>(alloc: Global) -> Command<'a>
     ensures app { app_of result ≡ named_app }
@@ -266,6 +328,13 @@ fn top<'a>(alloc: Global) -> Command<'a>
         .version(texts::VERSION)
         .about(texts::BPFJOBS)
         .after_help(texts::BPFJOBS_MORE)
+}
+
+// The same, where a command has to be said.
+fn requiring<'a>(alloc: Global) -> Command<'a>
+    ensures { app_of result ≡ requiring named_app }
+{
+    top(alloc).subcommand_required(true)
 }
 
 // A command that has no argument yet.
@@ -347,6 +416,29 @@ fn read_journal<'a>(alloc: Global) -> Result<Command<'a>, AllocError>
     .arg(check(alloc))
 }
 
+// `ask` without its arguments. clap's own usage would call the port and the socket optional.
+fn asking<'a>(alloc: Global) -> Command<'a>
+    ensures app { app_of result ≡ new_app (codes "ask") }
+    ensures local { (fields_of result).has_globals ≡ false }
+{
+    named(alloc, "ask", texts::ASK, texts::ASK_MORE).override_usage(texts::ASK_USAGE)
+}
+
+fn ask<'a>(alloc: Global) -> Result<Command<'a>, AllocError>
+    ensures app { IfOk result (λ c. app_of c ≡ ask_app) }
+    ensures local { IfOk result (λ c. (fields_of c).has_globals ≡ false) }
+{
+    asking(alloc)
+        .arg(port(alloc))?
+        .arg(socket(alloc))?
+        .arg(wait(alloc))?
+        .arg(word(alloc))?
+        .arg(subject(alloc))?
+        .arg(amount(alloc))?
+        .arg(key(alloc))?
+        .arg(from(alloc))
+}
+
 // The program with the commands between text and bytes.
 fn with_texts<'a>(alloc: Global, command: Command<'a>) -> Result<Command<'a>, AllocError>
     ensures { IfOk result (λ c. app_of c ≡ with_text_commands (app_of command.entry)) }
@@ -365,10 +457,11 @@ fn with_texts<'a>(alloc: Global, command: Command<'a>) -> Result<Command<'a>, Al
 pub(crate) fn bpfjobs<'a>(alloc: Global) -> Result<Command<'a>, AllocError>
     ensures { IfOk result (λ c. app_of c ≡ bpfjobs_app) }
 {
-    let command = with_texts(alloc, top(alloc).subcommand_required(true))?;
+    let command = with_texts(alloc, requiring(alloc))?;
     let command = command.subcommand(verify(alloc)?)?;
     let command = command.subcommand(play(alloc)?)?;
     let command = command.subcommand(run(alloc)?)?;
     let command = command.subcommand(serve(alloc)?)?;
-    command.subcommand(read_journal(alloc)?)
+    let command = command.subcommand(read_journal(alloc)?)?;
+    command.subcommand(ask(alloc)?)
 }

@@ -10,8 +10,9 @@ ghost use Rattle.bpfjobs_cli.specs.declared.commands.EndpointFault.TheVariants a
 ghost use Rattle.bpfjobs_cli.specs.declared.commands.Usage.TheVariants as usage_of;
 ghost use Rattle.bpfjobs_cli.specs.Tenants.{entered, is_socket_path, tenants_in, words_said};
 ghost use Rattle.bpfjobs_cli.specs.Entries.{IsWordUsage};
-ghost use Rattle.bpfjobs_cli.specs.Commands.{AreJobsOf, AreOptionsOf, AreTenantsOf, HasText, IsCommandOf, IsCommandUsage, IsEndpointOf, IsEndpointUsage, IsFlagOf, IsInRange, IsJournalOf, IsMaybeNumber, IsNumberIn, IsServeOf, IsShownOf, IsSyncOf, IsUsage, NameNoTenant, NameTenants, SaysCommand, SaysServe, sessions_said, tenant_words};
+ghost use Rattle.bpfjobs_cli.specs.Commands.{AreJobsOf, AreOptionsOf, AreTenantsOf, HasText, IsCommandOf, IsCommandUsage, IsEndpointOf, IsEndpointUsage, IsFlagOf, IsInRange, IsJournalOf, IsMaybeNumber, IsNumberIn, IsPlaceUsage, IsServeOf, IsShownOf, IsSyncOf, IsUsage, NameNoTenant, NameTenants, SaysCommand, SaysServe, sessions_said, tenant_words};
 
+use crate::asking::ask_of;
 use crate::commands::{
     Command, CommandRequest, Endpoint, EndpointFault, Serve, ServeOptions, Shown, Usage,
 };
@@ -23,8 +24,8 @@ use crate::tenants::tenants_of_words;
 use clap::ArgMatches;
 use std::alloc::{AllocError, Global};
 
-// The number of an argument that has one, from low to high.
-fn number(matches: &ArgMatches<'_>, id: &str, low: u32, high: u32) -> u32
+/// The number of an argument that has one, from low to high.
+pub(crate) fn number(matches: &ArgMatches<'_>, id: &str, low: u32, high: u32) -> u32
     requires { (n : ℕ) × IsNumberIn (rows_of (found_of matches.now)) id.now low high n }
     ensures { IsNumberIn (rows_of (found_of matches.now)) id.now low high result }
 {
@@ -44,8 +45,12 @@ fn flag(matches: &ArgMatches<'_>, id: &str) -> bool
     }
 }
 
-// The text of an argument, if it has one.
-fn text(alloc: Global, matches: &ArgMatches<'_>, id: &str) -> Result<Option<String>, AllocError>
+/// The text of an argument, if it has one.
+pub(crate) fn text(
+    alloc: Global,
+    matches: &ArgMatches<'_>,
+    id: &str,
+) -> Result<Option<String>, AllocError>
     ensures { IfOk result (λ text. first_of id.now (rows_of (found_of matches.now))
         ≡ option_map string_bytes text) }
 {
@@ -55,8 +60,8 @@ fn text(alloc: Global, matches: &ArgMatches<'_>, id: &str) -> Result<Option<Stri
     }
 }
 
-// The number of an argument, from low to high, if the words say one.
-fn maybe_number(matches: &ArgMatches<'_>, id: &str, low: u32, high: u32) -> Option<u32>
+/// The number of an argument, from low to high, if the words say one.
+pub(crate) fn maybe_number(matches: &ArgMatches<'_>, id: &str, low: u32, high: u32) -> Option<u32>
     requires { (n : Option ℕ)
         × IsMaybeNumber (rows_of (found_of matches.now)) id.now low high n }
     ensures { IsMaybeNumber (rows_of (found_of matches.now)) id.now low high result }
@@ -106,13 +111,13 @@ fn socket_endpoint(path: String, grants: Option<String>) -> Result<Endpoint, Usa
     Ok(Endpoint::Socket { path, grants })
 }
 
-// The place where a server listens: a port, or a socket.
-fn endpoint(alloc: Global, matches: &ArgMatches<'_>) -> Result<Endpoint, Usage>
+/// The place where a server listens: a port, or a socket.
+pub(crate) fn endpoint(alloc: Global, matches: &ArgMatches<'_>) -> Result<Endpoint, Usage>
     requires { (n : Option ℕ)
         × IsMaybeNumber (rows_of (found_of matches.now)) (codes "port") 1 65535 n }
     ensures ok { IfOk result (λ endpoint.
         IsEndpointOf (rows_of (found_of matches.now)) endpoint) }
-    ensures err { IfErr result (λ usage. IsEndpointUsage (rows_of (found_of matches.now)) usage) }
+    ensures err { IfErr result (λ usage. IsPlaceUsage (rows_of (found_of matches.now)) usage) }
 {
     let path = text(alloc, matches, "socket")?;
     let grants = text(alloc, matches, "grants")?;
@@ -358,6 +363,10 @@ fn command_of(alloc: Global, name: &str, matches: &ArgMatches<'_>) -> Result<Com
         "journal" => match journal_command(alloc, matches) {
             Ok(command) => Ok(command),
             Err(_) => Err(Usage::NoMemory),
+        },
+        "ask" => match ask_of(alloc, matches) {
+            Ok(ask) => Ok(Command::Ask(ask)),
+            Err(usage) => Err(usage),
         },
         _ => unreachable!(),
     }

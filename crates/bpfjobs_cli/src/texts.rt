@@ -134,7 +134,41 @@ pub(crate) const JOURNAL_FILE: &str = "The path of the journal";
 pub(crate) const CHECK: &str =
     "Tells no records, and judges the journal as a server does at its start";
 
-pub(crate) const SOCKET: &str = "The path of a socket to listen on, in place of a port";
+pub(crate) const ASK: &str = "Asks a server that runs, and prints its reply";
+
+pub(crate) const ASK_USAGE: &str =
+    "bpfjobs ask <--port <PORT>|--socket <PATH>> [OPTIONS] <WORD> [TENANT|JOB] [AMOUNT]";
+
+pub(crate) const ASK_MORE: &str =
+    "Connects, sends one request, and writes the JSON of the reply and a line end.
+
+The words are account [TENANT], submit [TENANT] [--key KEY] with a job object on standard input,
+status JOB, result JOB, jobs [--from NUMBER], grant TENANT AMOUNT, server, or stop. A tenant's own
+socket needs no TENANT, and it alone hears jobs and takes a KEY. Where there is a socket for grants,
+it alone hears grant, server and stop.
+
+With --wait it tries again while nobody listens there, and so waits for a server that starts.
+Status: 0 the reply is ok, 1 it is a refusal, 2 wrong words, 3 where it can't connect, the stream
+ends ahead of the reply, or the input or the output fails: then a line on standard error says why.
+
+Example:
+  $ bpfjobs serve --socket door --sessions 1 &
+  $ bpfjobs ask --wait 10 --socket door grant t 100
+  {\"balance\":100,\"granted\":100,\"ok\":true,\"open\":0,\"spent\":0}";
+
+pub(crate) const WORD: &str = "account, submit, status, result, jobs, grant, server or stop";
+
+pub(crate) const SUBJECT: &str = "The name of a tenant, or the number of a job";
+
+pub(crate) const AMOUNT: &str = "The credit of a grant, 1 to 2147483647";
+
+pub(crate) const WAIT: &str = "Seconds within which a server may begin to listen there, 0 to 3600";
+
+pub(crate) const KEY: &str = "A key of the submit, at a tenant's own socket";
+
+pub(crate) const FROM: &str = "The number of the first job to list, 1 and up";
+
+pub(crate) const SOCKET: &str = "The path of the server's socket, in place of a port";
 
 pub(crate) const GRANTS: &str =
     "With --socket: the path of a second socket, which alone takes grants";
@@ -148,7 +182,7 @@ pub(crate) const TENANTS: &str =
 pub(crate) const TENANT_JOBS: &str =
     "With tenants: jobs that each may have open at once, 1 to 1000000: others fail by 81";
 
-pub(crate) const PORT: &str = "The port to listen on, 1 to 65535";
+pub(crate) const PORT: &str = "The server's port on 127.0.0.1, 1 to 65535";
 
 pub(crate) const SESSIONS: &str =
     "Connections to take in all, 1 to 1000000 [default: 1, or any number with --clients above 1]";

@@ -18,3 +18,16 @@ pub data StartsEach {R : Type 0} (starts : R → ℕ → AdmittedJob → Result 
       (outcome : Result (Unit {0}) ℕ) (s : R) (e : Ledger) → StartsEach starts desk runner jobs d r
       → starts r job.number job.job outcome s → NotesStart d job.number outcome e
       → StartsEach starts desk runner (jobs ++ job ∷ []) e s
+
+-- The first so many jobs were started, and the next one was refused by this number. None behind it was
+-- started.
+pub record RefusesOne {R : Type 0}
+    (starts : R → ℕ → AdmittedJob → Result (Unit {0}) ℕ → R → Type 0) (desk : Ledger) (runner : R)
+    (jobs : List OpenJob) (code : ℕ) (left : R) : Type 0 where
+  pub before : List OpenJob
+  pub job : OpenJob
+  pub after : List OpenJob
+  pub is : jobs ≡ before ++ job ∷ after
+  pub middle : R
+  pub started : StartsEach starts desk runner before desk middle
+  pub refused : starts middle job.number job.job (Err code) left

@@ -24,9 +24,9 @@ pub struct RecordingHandler<N, Q> {
 }
 
 impl<N: Runner, Q: RecordQueue> RecordingHandler<N, Q> {
-    ghost use Rattle.std.specs.Prelude.{◌≡◌, [], false};
-    ghost use Rattle.desk_recorder.specs.Recording.{IsRecorded};
-    ghost use Rattle.desk_recorder.specs.Restarts.{StartsEach};
+    ghost use Rattle.std.specs.Prelude.{◌≡◌, false, IfErr, OnOk};
+    ghost use Rattle.accounts.specs.Ledgers.{Ledger};
+    ghost use Rattle.desk_recorder.specs.Restarts.{RefusesOne, StartsEach};
 
     /// A runner, how many reports are kept, and the queue of the records.
     pub fn new(runner: N, keep: KeepLimits, queue: Q) -> RecordingHandler<N, Q>
@@ -40,18 +40,19 @@ impl<N: Runner, Q: RecordQueue> RecordingHandler<N, Q> {
         }
     }
 
-    /// Starts the open jobs of a recovered desk, each once and in this order. A refused start ends
-    /// the job by its number, which is recorded.
-    pub fn restart(&mut self, alloc: Global, desk: &mut Desk, jobs: Vec<OpenJob>)
+    /// Starts the open jobs of a recovered desk, each once and in this order. The first start that is
+    /// refused ends that, and its number is the result. Nothing is recorded.
+    pub fn restart(&mut self, alloc: Global, jobs: Vec<OpenJob>) -> Result<(), u8>
         requires { N.ready self.old.runner }
         ensures ready { N.ready self.new.runner }
-        ensures starts { StartsEach N.starts desk.old self.old.runner jobs.items desk.new
-            self.new.runner }
-        ensures records { IsRecorded Q.taken Q.has_failed self.old.recorder self.new.recorder
-            desk.old desk.new [] }
-        ensures same_keep { self.new.keep ≡ self.old.keep }
+        ensures starts { OnOk result ((desk : Ledger)
+            → StartsEach N.starts desk self.old.runner jobs.items desk self.new.runner) }
+        ensures refused { IfErr result (λ code. (desk : Ledger)
+            → RefusesOne N.starts desk self.old.runner jobs.items code self.new.runner) }
+        ensures same { (self.new.keep ≡ self.old.keep)
+            × (self.new.recorder ≡ self.old.recorder) }
     {
-        restart_jobs(alloc, desk, &mut self.runner, &mut self.recorder, jobs);
+        restart_jobs(alloc, &mut self.runner, jobs)
     }
 }
 

@@ -1,56 +1,30 @@
-//! Open jobs of a recovered desk, started again.
+//! The open jobs of a recovered desk, which are started again.
 
-ghost use Rattle.std.specs.Prelude.{ℕ, []};
-ghost use Rattle.desk_recorder.specs.Recording.{IsRecorded};
-ghost use Rattle.desk_recorder.specs.Restarts.{NotesStart, StartsEach};
+ghost use Rattle.std.specs.Prelude.{IfErr, OnOk};
+ghost use Rattle.accounts.specs.Ledgers.{Ledger};
+ghost use Rattle.desk_recorder.specs.Restarts.{RefusesOne, StartsEach};
 
-use crate::record_queue::RecordQueue;
-use crate::recorded_ends::end_job;
-use crate::recorder::ChangeRecorder;
-use accounts::Desk;
 use desk_journal::OpenJob;
 use std::alloc::Global;
 use streams::Runner;
 
-// Starts a job of the desk. A refused start ends it by its number, which is recorded.
-fn restart_job<N: Runner, Q: RecordQueue>(
+/// Starts each open job of a desk once, in this order. The first start that is refused ends that, and
+/// its number is the result: the desk and its records stay as they are.
+pub fn restart_jobs<N: Runner>(
     alloc: Global,
-    desk: &mut Desk,
     runner: &mut N,
-    recorder: &mut ChangeRecorder<Q>,
-    job: OpenJob,
+    jobs: Vec<OpenJob>,
 ) -> Result<(), u8>
     requires { N.ready runner.old }
     ensures ready { N.ready runner.new }
-    ensures starts { N.starts runner.old job.number job.job result runner.new }
-    ensures noted { NotesStart desk.old job.number result desk.new }
-    ensures records { IsRecorded Q.taken Q.has_failed recorder.old recorder.new desk.old desk.new [] }
-{
-    let OpenJob { number, job } = job;
-    match runner.start(alloc, number, job) {
-        Ok(()) => Ok(()),
-        Err(code) => {
-            end_job(alloc, desk, recorder, number, Err(code));
-            Err(code)
-        }
-    }
-}
-
-/// Starts each job once, in this order. A refused start ends the job by its number, which is
-/// recorded.
-pub fn restart_jobs<N: Runner, Q: RecordQueue>(
-    alloc: Global,
-    desk: &mut Desk,
-    runner: &mut N,
-    recorder: &mut ChangeRecorder<Q>,
-    jobs: Vec<OpenJob>,
-)
-    requires { N.ready runner.old }
-    ensures ready { N.ready runner.new }
-    ensures starts { StartsEach N.starts desk.old runner.old jobs.items desk.new runner.new }
-    ensures records { IsRecorded Q.taken Q.has_failed recorder.old recorder.new desk.old desk.new [] }
+    ensures starts { OnOk result ((desk : Ledger)
+        → StartsEach N.starts desk runner.old jobs.items desk runner.new) }
+    ensures refused { IfErr result (λ code. (desk : Ledger)
+        → RefusesOne N.starts desk runner.old jobs.items code runner.new) }
 {
     'jobs: for job in jobs {
-        let _ = restart_job(alloc, desk, runner, recorder, job);
+        let OpenJob { number, job } = job;
+        runner.start(alloc, number, job)?;
     }
+    Ok(())
 }

@@ -80,11 +80,15 @@ impl<T: NumberedJob, J: RegisterId> TurnState<T, J> {
         }
     }
 
-    /// Takes what has its turn, as a step of this end; none where nothing waits.
+    /// Takes what has its turn, as a step of this end; none where nothing waits, or the queue is
+    /// closed.
     pub fn take(&mut self, history: &QueueHistory<J>, seat: &mut EndSeat<J>) -> Option<T>
         ensures { MatchOption result (seat.new ≡ seat.old)
             (λ item. traffic_of seat.new.1 ≡ with_taken (traffic_of seat.old.1) (T.job item)) }
     {
+        if self.is_closed {
+            return None;
+        }
         let (flow, item) = self.queue.take()?;
         let taken = Snapshot::of(&item);
         history.add(seat, &mut self.recorder, false, flow, &taken);
@@ -96,7 +100,7 @@ impl<T: NumberedJob, J: RegisterId> TurnState<T, J> {
         self.queue.count() == 0 && !self.is_closed
     }
 
-    /// Nothing is put in from now on.
+    /// Nothing is put in or taken from now on.
     pub fn close(&mut self) {
         self.is_closed = true;
     }
@@ -168,7 +172,7 @@ impl<T: NumberedJob, J: RegisterId> TurnInlet<T, J> {
 }
 
 impl<T: NumberedJob, J: RegisterId> TurnOutlet<T, J> {
-    /// What has its turn, once something waits; none where nothing waits and the queue is closed.
+    /// What has its turn, once something waits; none once the queue is closed.
     pub fn take<R: Wait>(&mut self, rt: &R) -> Option<T>
         ensures { MatchOption result (self.new ≡ self.old)
             (λ item. self.new ≡ with_taken self.old (T.job item)) }
@@ -182,7 +186,7 @@ impl<T: NumberedJob, J: RegisterId> TurnOutlet<T, J> {
 }
 
 impl<T: NumberedJob, J: RegisterId> TurnCloser<T, J> {
-    /// Closes the queue: nothing is put in from now on, and who takes waits no more.
+    /// Closes the queue: nothing is put in from now on, and who takes gets nothing more, whatever waits.
     pub fn close<R: Wait>(&self, rt: &R) {
         let shared: &TurnLock<T, J> = &self.shared;
         shared.state.lock(rt).close();

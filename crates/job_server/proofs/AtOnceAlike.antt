@@ -14,7 +14,7 @@ use Rattle.credit_book.specs.declared.book.Report.{Report}
 use Rattle.credit_book.specs.declared.board.Progress.{Progress}
 use Rattle.job_core.specs.Admitted.{AdmittedJob}
 use Rattle.job_server.specs.declared.fault.ServeFault.{ServeFault}
-use Rattle.job_server.specs.declared.fault.ServeFault.TheVariants.{Socket, Connection}
+use Rattle.job_server.specs.declared.fault.ServeFault.TheVariants.{Socket, Connection, Threads, Restart}
 use Rattle.job_server.specs.declared.keeping_handler.KeepingHandler.{KeepingHandler}
 use Rattle.job_pools.specs.declared.limited_runner.LimitedRunner.{LimitedRunner}
 use Rattle.job_pools.specs.Bounded.{looks_within, starts_within, takes_within}
@@ -138,6 +138,8 @@ ends_of closed opened sessions over given_up (Connection fault) counted small is
 ends_of closed opened sessions over given_up (Connection fault) counted small is (inr (none, inr (inl lost))) =
     inr (none, inr (inl (λ all. lost (all_over (length closed) over opened counted all small))))
 ends_of closed opened sessions over given_up (Connection fault) counted small is (inr (none, inr (inr nothing))) = inr (none, inr (inr nothing))
+ends_of closed opened sessions over given_up Threads counted small is ends = ends
+ends_of closed opened sessions over given_up (Restart code) counted small is ends = absurd ends
 
 pub fault_of_all : (closed : List ClosedConnection) (opened sessions over : ℕ) (given_up : Result (Unit {0}) StreamFault) (outcome : Result (Unit {0}) ServeFault) → over ≡ min (length closed) (2 ^ 64 - 1) → opened < 2 ^ 64 - 1
     → given_up ≡ first_fault closed → IfErr outcome (EndsBy opened sessions over given_up) → IfErr outcome (EndsBy opened sessions (length closed) (first_fault closed))

@@ -9,9 +9,8 @@ use Rattle.job_server.specs.declared.bounds.Bounds.{Bounds}
 use Rattle.job_server.specs.declared.fault.ServeFault.{ServeFault}
 use Rattle.job_server.specs.declared.fault.ServeFault.TheVariants as fault
 use Rattle.job_server.specs.declared.tenant_door.TenantDoor.{TenantDoor}
-use Rattle.job_server.specs.declared.tenants_listener.TenantsListener.{TenantsListener}
-use Rattle.job_server.specs.declared.timed_listener.TimedListener.{TimedListener}
-use Rattle.job_server.specs.AtOnce.{IsServing}
+use Rattle.job_server.specs.declared.socket_listener.SocketListener.{SocketListener}
+use Rattle.job_server.specs.AtOnce.{HasNotBegun, IsServing}
 use Rattle.job_server.specs.Listening.{AreOf, CameBy}
 use Rattle.job_server.specs.TenantServing.{GrantsByNoTenant, IsServingAt, IsServingBy, IsServingTenants}
 use Rattle.job_server.specs.TenantSockets.{passage_at}
@@ -53,25 +52,10 @@ module _ {L : Type 0} (opens fails : L → L → Type 0) (passage_of : L → Pas
   by_listener none [] s = s.0
   by_listener none (d ∷ ds) s = (s.0, λ k c lt. none _ (s.2 k c lt))
 
-  pub served_by : ((p : Passage) → CameBy opens passage_of p → GrantsByNoTenant p) → IsServingAt opens fails passage_of listener doors bounds sessions may_stop outcome ⊎ (outcome ≡ Err (fault.Connection NoMemory))
-      → IsServingBy doors bounds sessions may_stop outcome ⊎ (outcome ≡ Err (fault.Connection NoMemory)) ⊎ (outcome ≡ Err fault.Socket)
+  pub served_by : ((p : Passage) → CameBy opens passage_of p → GrantsByNoTenant p) → IsServingAt opens fails passage_of listener doors bounds sessions may_stop outcome ⊎ HasNotBegun outcome
+      → IsServingBy doors bounds sessions may_stop outcome ⊎ HasNotBegun outcome
   served_by none (inl s) = inl (by_listener none doors s)
-  served_by none (inr e) = inr (inl e)
-
-  pub served_plain : doors ≡ [] → IsServingAt opens fails passage_of listener doors bounds sessions may_stop outcome ⊎ (outcome ≡ Err (fault.Connection NoMemory))
-      → IsServing bounds sessions may_stop outcome ⊎ (outcome ≡ Err (fault.Connection NoMemory)) ⊎ (outcome ≡ Err fault.Socket)
-  served_plain none (inl s) = inl (by_doors doors none s)
-    where
-      by_doors : (ds : List TenantDoor) → ds ≡ [] → IsServingAt opens fails passage_of listener ds bounds sessions may_stop outcome → IsServing bounds sessions may_stop outcome
-      by_doors [] e t = t.0
-      by_doors (d ∷ ds) e t = absurd cc
-  served_plain none (inr e) = inr (inl e)
-
-pub plain_by : (doors : List TenantDoor) (bounds : Bounds) (sessions : ℕ) (may_stop : Bool) (outcome : Result (Unit {0}) ServeFault) → length doors ≡ 0
-    → IsServing bounds sessions may_stop outcome ⊎ (outcome ≡ Err (fault.Connection NoMemory)) ⊎ (outcome ≡ Err fault.Socket)
-    → IsServingBy doors bounds sessions may_stop outcome ⊎ (outcome ≡ Err (fault.Connection NoMemory)) ⊎ (outcome ≡ Err fault.Socket)
-plain_by [] bounds sessions may_stop outcome none s = s
-plain_by (d ∷ ds) bounds sessions may_stop outcome none s = absurd (omega (arith, none))
+  served_by none (inr e) = inr e
 
 -- ---- passages
 
@@ -91,9 +75,9 @@ place_grants tenants has_grants place n e = by_tests (nat_lt place tenants) (nat
     by_tests false true is is2 t = absurd (let u : Socket ≡ Tenant n = rw (is, is2) at t in cc)
     by_tests false false is is2 t = absurd (let u : Grants ≡ Tenant n = rw (is, is2) at t in cc)
 
-pub sockets_grant : {S : Type 0} (opens : TimedListener (TenantsListener S) → TimedListener (TenantsListener S) → Type 0) (p : Passage)
-    → CameBy opens (λ l. passage_at (length l.listener.tenants.items) (is_some l.listener.grants) l.listener.last) p → GrantsByNoTenant p
+pub sockets_grant : {S : Type 0} (opens : SocketListener S → SocketListener S → Type 0) (p : Passage)
+    → CameBy opens (λ l. passage_at (length l.tenants.items) (is_some l.grants) l.last) p → GrantsByNoTenant p
 sockets_grant opens p came n e =
-    let l = came.after.listener in
+    let l = came.after in
     let at = place_grants (length l.tenants.items) (is_some l.grants) l.last n (sym (ap (λ (q : Passage). q.door) came.is) ∙ e) in
     ap (λ (q : Passage). q.may_grant) came.is ∙ at

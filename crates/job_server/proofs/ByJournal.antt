@@ -7,6 +7,7 @@ use Rattle.job_server.specs.declared.bounds.Bounds.{Bounds}
 use Rattle.job_server.specs.declared.fault.ServeFault.{ServeFault}
 use Rattle.job_server.specs.declared.fault.ServeFault.TheVariants as fault
 use Rattle.job_server.specs.declared.tenant_door.TenantDoor.{TenantDoor}
+use Rattle.job_server.specs.AtOnce.{HasNotBegun}
 use Rattle.job_server.specs.Listening.{AreOf, CameBy}
 use Rattle.job_server.specs.TenantServing.{GrantsByNoTenant, IsServingAt, IsServingBy}
 use Rattle.job_server.specs.TenantRecorded.{IsServingTenantsRecorded, desks_of}
@@ -56,27 +57,12 @@ module _ {L Q J : Type 0} (opens fails : L → L → Type 0) (passage_of : L →
 
   -- a server by this listener is one, where no tenant's connection may grant
   pub served_with : ((p : Passage) → CameBy opens passage_of p → GrantsByNoTenant p)
-      → IsServingWithAt opens fails passage_of listener taken failed journal_of journals states doors bounds sessions may_stop outcome ⊎ (outcome ≡ Err (fault.Connection NoMemory))
-      → IsServingWith taken failed journal_of journals states doors bounds sessions may_stop outcome ⊎ (outcome ≡ Err (fault.Connection NoMemory)) ⊎ (outcome ≡ Err fault.Socket)
-  served_with none (inr e) = inr (inl e)
+      → IsServingWithAt opens fails passage_of listener taken failed journal_of journals states doors bounds sessions may_stop outcome ⊎ HasNotBegun outcome
+      → IsServingWith taken failed journal_of journals states doors bounds sessions may_stop outcome ⊎ HasNotBegun outcome
+  served_with none (inr e) = inr e
   served_with none (inl s) = by_lists journals doors s
     where
-      by_lists : (js : List J) (ds : List TenantDoor) → ServesAt js ds → Serves js ds ⊎ (outcome ≡ Err (fault.Connection NoMemory)) ⊎ (outcome ≡ Err fault.Socket)
+      by_lists : (js : List J) (ds : List TenantDoor) → ServesAt js ds → Serves js ds ⊎ HasNotBegun outcome
       by_lists [] ds t = served_by opens fails passage_of listener ds bounds sessions may_stop outcome none (inl t)
       by_lists (j ∷ js) [] t = inl t.0
       by_lists (j ∷ js) (d ∷ ds) t = inl (t.0, λ k c lt. none _ (t.2 k c lt))
-
-  by_no_door : (ds : List TenantDoor) → ds ≡ [] → IsServingAt opens fails passage_of listener ds bounds sessions may_stop outcome → IsServingBy ds bounds sessions may_stop outcome
-  by_no_door [] e s = s.0
-  by_no_door (d ∷ ds) e s = absurd cc
-
-  -- and so is one without doors
-  pub served_alone : doors ≡ [] → IsServingWithAt opens fails passage_of listener taken failed journal_of journals states doors bounds sessions may_stop outcome ⊎ (outcome ≡ Err (fault.Connection NoMemory))
-      → IsServingWith taken failed journal_of journals states doors bounds sessions may_stop outcome ⊎ (outcome ≡ Err (fault.Connection NoMemory)) ⊎ (outcome ≡ Err fault.Socket)
-  served_alone none (inr e) = inr (inl e)
-  served_alone none (inl s) = inl (by_lists journals doors none s)
-    where
-      by_lists : (js : List J) (ds : List TenantDoor) → ds ≡ [] → ServesAt js ds → Serves js ds
-      by_lists [] ds e t = by_no_door ds e t
-      by_lists (j ∷ js) [] e t = t.0
-      by_lists (j ∷ js) (d ∷ ds) e t = absurd cc

@@ -12,7 +12,6 @@ use Rattle.tenant_recorder.specs.Recorders.{AreRecorded, HaveForgotten, IsNewRec
 use Rattle.tenant_recorder.specs.TenantCredits.{AreCredited}
 use Rattle.tenant_recorder.specs.TenantRestarts.{RestartsEach}
 use Rattle.tenant_recorder.specs.TenantsRecorded.{RecordedRunner}
-use Rattle.tenant_recorder.proofs.EachPlace.{recorded_then}
 use Rattle.job_server.specs.TenantRecorded.{AreFresh, AreRestarted}
 
 module _ {Q : Type 0} (taken : Q → List ℕ) where
@@ -76,30 +75,31 @@ pub made_fresh : {R Q E : Type 0} (queues : List Q) (runner : R) (keep : KeepLim
 made_fresh queues runner keep taken (Ok m) is none = fresh_of taken queues m.recorders is.2 none
 made_fresh queues runner keep taken (Err e) is none = tt
 
--- recovered desks, at which a new handler has granted each tenant its first credit, and has started the open jobs again
+-- recovered desks, whose open jobs a new handler has started again, and at which it has granted each tenant its first credit
 pub tenants_restarted : {R Q J : Type 0} (starts : R → ℕ → AdmittedJob → Result (Unit {0}) ℕ → R → Type 0) (taken : Q → List ℕ) (failed : Q → Type 0) (journal_of : Q → J) (journals : List J) (recovered : Tenancy)
     (tenants : List (List ℕ × Option ℕ)) (held : List (List OpenJob)) (runner : R) (keep : KeepLimits)
-    (desks : Tenancy) (said : List (List ℕ × Option ℕ)) (jobs : List (List OpenJob)) (handler : RecordedRunner R Q) (mid : Tenancy) (granting : RecordedRunner R Q) (after : Tenancy) (left : RecordedRunner R Q)
+    (desks : Tenancy) (said : List (List ℕ × Option ℕ)) (jobs : List (List OpenJob)) (handler mid : RecordedRunner R Q) (after : Tenancy) (left : RecordedRunner R Q)
     → desks ≡ recovered → said ≡ tenants → jobs ≡ held → handler.runner ≡ runner → handler.keep ≡ keep
     → map (λ (r : ChangeRecorder Q). journal_of r.queue) handler.recorders ≡ journals → AreFresh taken handler.recorders → length handler.recorders ≡ length desks.desks
-    → AreCredited said desks.desks mid.desks → AreRecorded taken failed handler.recorders granting.recorders desks.desks mid.desks
-    → (HaveForgotten handler.keep desks.desks handler.recorders → HaveForgotten granting.keep mid.desks granting.recorders) → granting.runner ≡ handler.runner → granting.keep ≡ handler.keep → mid.names ≡ desks.names
-    → RestartsEach starts mid.desks granting.runner jobs after.desks left.runner → AreRecorded taken failed granting.recorders left.recorders mid.desks after.desks
-    → (HaveForgotten granting.keep mid.desks granting.recorders → HaveForgotten left.keep after.desks left.recorders) → left.keep ≡ granting.keep → after.names ≡ mid.names
+    → ((ds : List Ledger) → length ds ≡ length desks.desks → RestartsEach starts ds handler.runner jobs ds mid.runner) → mid.keep ≡ handler.keep → mid.recorders ≡ handler.recorders
+    → AreCredited said desks.desks after.desks → AreRecorded taken failed mid.recorders left.recorders desks.desks after.desks
+    → (HaveForgotten mid.keep desks.desks mid.recorders → HaveForgotten left.keep after.desks left.recorders) → left.runner ≡ mid.runner → left.keep ≡ mid.keep → after.names ≡ desks.names
     → AreRestarted starts taken failed journal_of journals recovered tenants held runner keep (after, left)
-tenants_restarted {R} {Q} starts taken failed journal_of journals recovered tenants held runner keep desks said jobs handler mid granting after left are_desks are_said are_held is_runner is_keep own fresh paired
-    credited first kept_first same_runner same_keep same_names started recorded forgotten kept names = record {
+tenants_restarted {R} {Q} starts taken failed journal_of journals recovered tenants held runner keep desks said jobs handler mid after left are_desks are_said are_held is_runner is_keep own fresh paired
+    started mid_keep mid_recorders credited recorded forgotten same_runner same_keep same_names = record {
       fresh = handler.recorders;
       none = fresh;
       own = own;
       paired = paired ∙ ap (λ (t : Tenancy). length t.desks) are_desks;
-      granted = mid.desks;
-      credited = subst (λ (t : Tenancy). AreCredited tenants t.desks mid.desks) are_desks (subst (λ (ts : List (List ℕ × Option ℕ)). AreCredited ts desks.desks mid.desks) are_said credited);
-      started = subst (λ (r : R). RestartsEach starts mid.desks r held after.desks left.runner) (same_runner ∙ is_runner)
-          (subst (λ (js : List (List OpenJob)). RestartsEach starts mid.desks granting.runner js after.desks left.runner) are_held started);
+      granted = after.desks;
+      credited = subst (λ (t : Tenancy). AreCredited tenants t.desks after.desks) are_desks (subst (λ (ts : List (List ℕ × Option ℕ)). AreCredited ts desks.desks after.desks) are_said credited);
+      started = subst (λ (r : R). RestartsEach starts after.desks r held after.desks left.runner) is_runner
+          (subst (λ (js : List (List OpenJob)). RestartsEach starts after.desks handler.runner js after.desks left.runner) are_held
+          (subst (λ (r : R). RestartsEach starts after.desks handler.runner jobs after.desks r) (sym same_runner) (started after.desks recorded.desks)));
       recorded = subst (λ (t : Tenancy). AreRecorded taken failed handler.recorders left.recorders t.desks after.desks) are_desks
-          (recorded_then taken failed handler.recorders granting.recorders left.recorders desks.desks mid.desks after.desks first recorded);
-      names = names ∙ same_names ∙ ap (λ (t : Tenancy). t.names) are_desks;
-      kept = kept ∙ same_keep ∙ is_keep;
-      in_step = forgotten (kept_first (fresh_forgotten taken handler.recorders handler.keep desks.desks fresh paired));
+          (subst (λ (rs : List (ChangeRecorder Q)). AreRecorded taken failed rs left.recorders desks.desks after.desks) mid_recorders recorded);
+      names = same_names ∙ ap (λ (t : Tenancy). t.names) are_desks;
+      kept = same_keep ∙ mid_keep ∙ is_keep;
+      in_step = forgotten (subst (λ (k : KeepLimits). HaveForgotten k desks.desks mid.recorders) (sym mid_keep)
+          (subst (λ (rs : List (ChangeRecorder Q)). HaveForgotten handler.keep desks.desks rs) (sym mid_recorders) (fresh_forgotten taken handler.recorders handler.keep desks.desks fresh paired)));
     }

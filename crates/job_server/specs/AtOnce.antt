@@ -11,7 +11,7 @@ use Rattle.shared_desk.specs.Histories.{HistoryEntry, Query, Replays, by_any_pas
 use Rattle.shared_desk.specs.ServerAsked.{answers_counting}
 use Rattle.shared_desk.specs.Closed.{AreClosed, IsServedWhole, first_fault}
 use Rattle.job_server.specs.declared.fault.ServeFault.{ServeFault}
-use Rattle.job_server.specs.declared.fault.ServeFault.TheVariants.{Socket, Connection}
+use Rattle.job_server.specs.declared.fault.ServeFault.TheVariants.{Socket, Connection, Threads, Restart}
 use Rattle.job_pools.specs.declared.job_seats.StartedJob.{StartedJob}
 use Rattle.job_pools.specs.Holds.{StartsBy, TellsBy, TakesBy}
 use Rattle.job_pools.specs.Started.{pooled_at, pooled_count}
@@ -21,14 +21,22 @@ use Rattle.job_server.specs.Kept.{answers_keeping}
 use Rattle.job_pools.specs.declared.limited_runner.LimitedRunner.{LimitedRunner}
 use Rattle.job_server.specs.declared.keeping_handler.KeepingHandler.{KeepingHandler}
 
--- Why a server ends with a fault: a connection could not be taken, so that not all were opened; one
--- was given up by it; or there was no memory, so that not all were opened, or not all of those are
--- over, or none was opened.
+-- Why a server ends with a fault: no more connections could be taken, so that not all were opened; one
+-- was given up by it; there was no memory, so that not all were opened, or not all of those are over,
+-- or none was opened; or there was no thread, so that none was opened.
 abbrev pub EndsBy : ℕ → ℕ → ℕ → Result (Unit {0}) StreamFault → ServeFault → Type 0
 EndsBy opened sessions over given_up Socket = opened < sessions
 EndsBy opened sessions over given_up (Connection fault) =
     (given_up ≡ Err fault)
     ⊎ ((fault ≡ stream.NoMemory) × ((opened ≢ sessions) ⊎ (over ≢ opened) ⊎ (opened ≡ 0)))
+EndsBy opened sessions over given_up Threads = opened ≡ 0
+EndsBy opened sessions over given_up (Restart code) = ⊥
+
+-- A server that has not begun: there was no memory, or no thread, or an open job could not be started
+-- again.
+abbrev pub HasNotBegun : Result (Unit {0}) ServeFault → Type 0
+HasNotBegun outcome = (outcome ≡ Err (Connection stream.NoMemory)) ⊎ (outcome ≡ Err Threads)
+    ⊎ ((code : ℕ) × (outcome ≡ Err (Restart code)))
 
 -- So many connections were to be served. One legal history has every answer in order, and leads
 -- to the end. Those that were opened have numbers from 0 on; no other has a part of the history.

@@ -1,4 +1,5 @@
 pub mod Kept
+pub mod Accepting
 pub mod AtOnce
 pub mod Addresses
 pub mod Listening

@@ -4,7 +4,9 @@ ghost use Rattle.std.specs.Prelude.{◌≡◌, ◌≤◌, [], All, Ok, OnOk, IfE
 ghost use Rattle.job_server.specs.AtOnce.{EndsBy, IsServingFrom};
 ghost use Rattle.job_server.specs.Listening.{AreOf, AreOfFirst, CameBy};
 ghost use Rattle.shared_desk.specs.declared.passage.Passage.{Passage};
+ghost use denote.Param.Send.{IsSend};
 
+use crate::accept_faults::note;
 use crate::entrance::{Entrance, FirstListener};
 use crate::fault::ServeFault;
 use crate::listener::Listener;
@@ -14,9 +16,10 @@ use crate::reply_journals::journals_behind;
 use crate::shares::{Shares, leave, shares_of};
 use crate::stop_flag::{ended_by, has_failed, raise_if};
 use crate::timed_reader::{TimedReader, Waiting};
+use crate::timed_writer::TimedWriter;
 use durable_replies::{DurableSink, notes_of, serve_durably};
 use refusal::NoMemory;
-use server_log::{LogEvent, ServerLog, millis_since};
+use server_log::{LogEvent, ServerLog, StopFlag, millis_since};
 use shared_desk::{
     ClientSeat, HistoryId, LentDesk, NewHistory, Origin, Passage, SharedDesk, SharedHandler,
     SharedHistory,
@@ -27,7 +30,7 @@ use std::marker::Brand;
 use std::net::TcpStream;
 use std::sync::{Mutex, Wait};
 use std::thread;
-use std::thread::Threads;
+use std::thread::{Scope, Threads};
 use std::time::{Clock, Instant};
 use streams::{Noted, StreamFault, Tap};
 
@@ -59,7 +62,7 @@ fn answer_connection<
     sync: ReplySync,
 ) -> (
     NotedReader<'s, TimedReader<'s, R>>,
-    NotedWriter<&'s TcpStream>,
+    NotedWriter<TimedWriter<'s, R>>,
     bool,
 )
     requires fresh { seat.part ≡ [] }
@@ -67,7 +70,7 @@ fn answer_connection<
 {
     let timed = TimedReader::new(rt, stream, waiting);
     let mut reader = Tap::new(NotedReader::new(timed, waiting.stop));
-    let tap = Tap::new(NotedWriter::new(stream));
+    let tap = Tap::new(NotedWriter::new(TimedWriter::over(rt, stream, waiting.seconds)));
     let Ok(notes) = notes_of(alloc, makers) else {
         let outcome = Err(StreamFault::NoMemory);
         lock.lock(rt)
@@ -79,7 +82,7 @@ fn answer_connection<
     serve_durably::<
         Brand,
         Tap<NotedReader<'s, TimedReader<'s, R>>>,
-        Tap<NotedWriter<&'s TcpStream>>,
+        Tap<NotedWriter<TimedWriter<'s, R>>>,
         R,
         LentDesk<'_, R, D, H, J>,
         R,
@@ -109,15 +112,17 @@ fn answer_connection<
 fn next_connection<R: Wait + Clock, L: Listener + Drop, J: HistoryId + FirstListener<L>>(
     rt: &R,
     history: &SharedHistory<J>,
-    entrance: &Mutex<Entrance<'_, L, J>>,
+    entrance: &Mutex<Entrance<L, J>>,
+    stop: Option<&StopFlag>,
     journals: &[SharedJournal],
+    shares: Option<&Shares>,
     log: &ServerLog,
 ) -> Option<(TcpStream, ClientSeat<J>, Passage, u64)>
     ensures fresh { IfSome result (λ taken. taken.1.part ≡ []) }
     ensures passage { IfSome result (λ taken. J.comes taken.2) }
 {
     let mut entrance = entrance.lock(rt);
-    let next = entrance.next(rt, history);
+    let next = entrance.next(rt, log, stop, journals, shares, history);
     if next.is_none() && entrance.is_first_at_end() {
         if has_failed(journals) {
             log.tell(rt, LogEvent::JournalFailed);
@@ -141,7 +146,7 @@ fn take_turns<
     rt: &R,
     alloc: Global,
     history: &SharedHistory<J>,
-    entrance: &Mutex<Entrance<'_, L, J>>,
+    entrance: &Mutex<Entrance<L, J>>,
     lock: &Mutex<SharedDesk<D, H, J>>,
     waiting: Waiting<'_>,
     shares: Option<&Shares>,
@@ -152,7 +157,13 @@ fn take_turns<
 ) {
     for _ in rt.forever() {
         let Some((stream, seat, passage, connection)) = next_connection(
-            rt, history, entrance, journals, log,
+            rt,
+            history,
+            entrance,
+            waiting.stop,
+            journals,
+            shares,
+            log,
         ) else {
             return;
         };
@@ -185,14 +196,15 @@ fn tell_opened<R: Wait + Clock>(
     Instant::now(rt).ok()
 }
 
-// What a server comes to that was to serve so many connections, of which some were opened, some
-// could not be taken, and some are over; whether a host stopped it; and the first fault by which one
-// was given up.
+// What a server comes to that was to serve so many connections, of which some were opened, and some are
+// over; whether its threads were there, whether no more connections could be taken, and whether a host
+// stopped it; and the first fault by which one was given up.
 fn outcome_of(
     sessions: u64,
     opened: u64,
-    failed: u64,
     over: u64,
+    begun: bool,
+    failed: bool,
     stopped: bool,
     given_up: Result<(), StreamFault>,
 ) -> Result<(), ServeFault>
@@ -200,7 +212,10 @@ fn outcome_of(
         × (stopped ≡ false → opened ≡ sessions)) }
     ensures fault { IfErr result (EndsBy opened sessions over given_up) }
 {
-    if failed > 0 && opened < sessions {
+    if !begun && opened == 0 {
+        return Err(ServeFault::Threads);
+    }
+    if failed && opened < sessions {
         return Err(ServeFault::Socket);
     }
     if over != opened || opened > sessions {
@@ -213,6 +228,89 @@ fn outcome_of(
         Ok(()) => Ok(()),
         Err(fault) => Err(ServeFault::Connection(fault)),
     }
+}
+
+// Starts so many threads that take connections and serve them. Tells whether there is one for each.
+fn start_clients<
+    's,
+    E: 's,
+    R: Threads + Wait + Clock + Sync,
+    L: Listener + Send + Drop + 's,
+    D: Send + Drop + 's,
+    H: SharedHandler<D> + Noted<N> + Send + Drop + 's,
+    N: GroupNote + Send + 's,
+    K: NoteMaker<N> + Sync + 's,
+    J: Origin<D, H> + FirstListener<L> + Send + Sync + 's,
+>(
+    rt: &'s R,
+    scope: &Scope<'s, E>,
+    alloc: Global,
+    history: &'s SharedHistory<J>,
+    entrance: &'s Mutex<Entrance<L, J>>,
+    lock: &'s Mutex<SharedDesk<D, H, J>>,
+    clients: u32,
+    waiting: Waiting<'s>,
+    shares: Option<&'s Shares>,
+    journals: &'s [SharedJournal],
+    makers: &'s [K],
+    sync: ReplySync,
+    log: &'s ServerLog,
+) -> bool {
+    for _ in 0..clients {
+        let client = move || {
+            take_turns(
+                rt, alloc, history, entrance, lock, waiting, shares, journals, makers, sync, log,
+            )
+        };
+        if scope.spawn(client).is_err() {
+            return false;
+        }
+    }
+    true
+}
+
+// Takes connections and serves them in so many threads at once, until no more are to be taken. Where a
+// thread can't be started nothing is taken, and it tells so.
+fn serve_clients<
+    R: Threads + Wait + Clock + Sync,
+    L: Listener + Send + Drop,
+    D: Send + Drop,
+    H: SharedHandler<D> + Noted<N> + Send + Drop,
+    N: GroupNote + Send,
+    K: NoteMaker<N> + Sync,
+    J: Origin<D, H> + FirstListener<L> + Send + Sync,
+>(
+    rt: &R,
+    alloc: Global,
+    history: &SharedHistory<J>,
+    entrance: &Mutex<Entrance<L, J>>,
+    lock: &Mutex<SharedDesk<D, H, J>>,
+    clients: u32,
+    waiting: Waiting<'_>,
+    shares: Option<&Shares>,
+    journals: &[SharedJournal],
+    makers: &[K],
+    sync: ReplySync,
+    log: &ServerLog,
+    place: &str,
+) -> bool {
+    thread::scope(thread::scope_env(), rt, |scope| -> bool
+        requires { IsSend L.row × IsSend D.row × IsSend H.row × IsSend N.row × IsSend J.row }
+    {
+        // no client takes a connection until all of them are there
+        let mut held = entrance.lock(rt);
+        let begun = start_clients(
+            rt, scope, alloc, history, entrance, lock, clients, waiting, shares, journals, makers,
+            sync, log,
+        );
+        if begun {
+            log.tell(rt, LogEvent::Ready);
+            note(rt, log, format!(in alloc; "listening on {place}"));
+        } else {
+            held.cancel();
+        }
+        begun
+    })
 }
 
 // `serve_at_once` under a name for the history.
@@ -245,6 +343,7 @@ fn serve_named<
         × All (λ c. J.comes c.passage) s.closed }
 {
     let Plan {
+        place,
         workers: _,
         sessions,
         bounds,
@@ -260,24 +359,40 @@ fn serve_named<
     };
     let (history, recorder, opener) = new_history.named::<J>();
     let lock = Mutex::new(SharedDesk::new(desk, handler, recorder));
-    let entrance = Mutex::new(Entrance::new(listener, opener, stop, journals, shares, sessions));
+    let entrance = Mutex::new(Entrance::new(alloc, listener, opener, sessions));
     let known = &history;
     let door = &entrance;
     let shared = &lock;
-    log.tell(rt, LogEvent::Ready);
-    let serve = |_: usize| {
-        take_turns(
-            rt, alloc, known, door, shared, waiting, shares, journals, makers, sync, log,
-        )
-    };
-    let _ = thread::map_indices(rt, alloc, bounds.clients as usize, &serve);
+    let begun = serve_clients(
+        rt,
+        alloc,
+        known,
+        door,
+        shared,
+        bounds.clients,
+        waiting,
+        shares,
+        journals,
+        makers,
+        sync,
+        log,
+        place,
+    );
     let mut shared = lock.into_inner();
     let (opened, failed, ended, mut opener) = entrance.into_inner().into_parts();
     shared.count(&history, &mut opener);
     shared.is_legal();
     let stopped = ended_by(stop, ended);
     let over = shared.over();
-    let outcome = outcome_of(sessions, opened, failed, over, stopped, shared.outcome());
+    let outcome = outcome_of(
+        sessions,
+        opened,
+        over,
+        begun,
+        failed,
+        stopped,
+        shared.outcome(),
+    );
     let (desk, handler) = shared.into_parts();
     (desk, handler, outcome)
 }
@@ -309,9 +424,9 @@ pub(crate) fn each_of<'j>(
 ///
 /// One legal history has all answers in order, and leads to the desk and the handler. On each
 /// connection its own part of the history was asked and answered, in order, and the history has
-/// nothing else. A connection that could not be taken, or that was given up by 83, 84 or 99, counts
-/// as served. Such a fault is answered at the end: of those that were given up the one that was
-/// over first. 99 also where there was no memory for the threads.
+/// nothing else. A connection that was given up by 83, 84 or 99 counts as served. Such a fault is
+/// answered at the end: of those that were given up the one that was over first. A try to take one that
+/// fails counts for nothing. Where a thread can't be started nothing is served.
 pub fn serve_at_once<
     R: Threads + Wait + Clock + Sync,
     L: Listener + Send + Drop,

@@ -23,17 +23,17 @@ mod frame_place;
 mod keeping_handler;
 mod noted_ends;
 mod stop_flag;
-mod timed_listener;
 mod timed_reader;
 mod timed_stream;
+mod timed_writer;
 
 pub use bounds::Bounds;
 pub use keeping_handler::KeepingHandler;
-pub use stop_flag::StopFlag;
-pub use timed_listener::TimedListener;
+pub use server_log::StopFlag;
 pub use timed_reader::Waiting;
 
 // many connections at once
+mod accept_faults;
 mod at_once;
 mod entrance;
 mod plan;
@@ -49,7 +49,7 @@ mod tenant_recording;
 
 pub use at_once::serve_at_once;
 pub use plan::Plan;
-pub use serving::{serve_listener, serve_port};
+pub use serving::{serve_listener, serve_port, serve_sockets};
 pub use tenant_door::TenantDoor;
 
 // the meaning of the replies, from a submit to its result
@@ -63,14 +63,11 @@ pub use tenant_laws::{
     own_results_outlive_restarts, payloads_lead_to_own_payloads, results_come_from_own_submits,
 };
 
-// the same by sockets in the file system
-mod local_listener;
-mod owner_socket;
-mod serving_doors;
-mod serving_sockets;
-mod tenants_listener;
+// where a server listens: the sockets in the file system, and their names
+mod opening;
+mod own_socket;
+mod socket_listener;
 
-pub use local_listener::{GrantsListener, LocalListener, listen_at};
-pub use owner_socket::listen_for_owner;
-pub use serving_sockets::serve_sockets;
-pub use tenants_listener::{AskedSocket, TenantsListener};
+pub use opening::{ListenFault, OpenSockets, open_sockets, remove_names};
+pub use own_socket::{OwnSocket, SocketAccess, listen_at};
+pub use socket_listener::{AskedSocket, SocketListener};

@@ -3,8 +3,8 @@
 ghost use Rattle.std.specs.Prelude.{◌≡◌, OnOk, OnErr};
 
 use shared_desk::{Door, Passage};
+use std::io;
 use std::net::{OpenListener, TcpStream};
-use streams::Failed;
 
 /// Gives connections, one after the other.
 pub trait Listener {
@@ -18,8 +18,9 @@ pub trait Listener {
 
     ghost fails: { Self → Self → Type 0 };
 
-    /// Takes the next connection.
-    fn accept(&mut self) -> Result<TcpStream, Failed>
+    /// Takes the next connection. `Interrupted` where something else ended the wait for it: it is asked
+    /// again, if the server goes on.
+    fn accept(&mut self) -> io::Result<TcpStream>
         ensures opens { OnOk result (opens self.old self.new) }
         ensures fails { OnErr result (fails self.old self.new) };
 
@@ -38,15 +39,11 @@ impl<'a, L: OpenListener<Stream = TcpStream>> Listener for &'a L {
 
     ghost fails = { λ _ _. Unit {0} };
 
-    fn accept(&mut self) -> Result<TcpStream, Failed> {
-        match OpenListener::accept(*self) {
-            Ok((stream, _)) => {
-                // a reply is one write, which waits for nothing
-                let _ = stream.set_nodelay(true);
-                Ok(stream)
-            }
-            Err(_) => Err(Failed),
-        }
+    fn accept(&mut self) -> io::Result<TcpStream> {
+        let (stream, _) = OpenListener::accept(*self)?;
+        // a reply is one write, which waits for nothing
+        let _ = stream.set_nodelay(true);
+        Ok(stream)
     }
 
     fn passage(&self) -> Passage {

@@ -1,8 +1,8 @@
 //! The two ends of a connection, which note how its stream goes and ends.
 
 use crate::frame_place::FramePlace;
-use crate::stop_flag::{StopFlag, is_stopped};
-use server_log::ConnectionEnd;
+use crate::stop_flag::is_stopped;
+use server_log::{ConnectionEnd, StopFlag};
 use std::io;
 use std::io::{ErrorKind, Read, Write};
 

@@ -2,19 +2,19 @@
 //! and its journals.
 
 use crate::bounds::Bounds;
-use crate::stop_flag::StopFlag;
 use crate::tenant_door::TenantDoor;
-use server_log::ServerLog;
+use server_log::{ServerLog, StopFlag};
 use shared_journal::{ReplySync, SharedJournal};
 
 /// A server's plan.
 #[derive(Clone, Copy)]
 pub struct Plan<'a> {
+    /// Where it listens, in words, of which its host is told once it takes connections.
+    pub place: &'a str,
     /// Workers, 1 to 16, which last. A job of more than 1,000,000 credit runs on as many threads of
     /// its own.
     pub workers: u32,
-    /// Connections in all; `u64::MAX`: any number. One that can't be taken counts, and with any number
-    /// the next one is waited for a moment later.
+    /// Connections in all; `u64::MAX`: any number. A try to take one that fails is none.
     pub sessions: u64,
     /// What its host bounds.
     pub bounds: Bounds,

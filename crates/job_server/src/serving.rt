@@ -1,18 +1,15 @@
 //! A server, whose jobs a pool runs that lasts.
 
-ghost use Rattle.std.specs.Prelude.{◌≡◌, ◌≤◌, ◌⊎◌, [], Err, is_some, length};
+ghost use Rattle.std.specs.Prelude.{◌≡◌, ◌≤◌, ◌⊎◌, [], is_some, length, vec_len};
+ghost use Rattle.job_server.specs.AtOnce.{HasNotBegun};
 ghost use Rattle.job_server.specs.Recorded.{HasJournalEach, IsServingWith, IsServingWithAt, queue_journal, queue_taken, queue_told};
-ghost use Rattle.job_server.specs.declared.fault.ServeFault.TheVariants as fault;
-ghost use Rattle.streams.specs.declared.fault.StreamFault.TheVariants as stream;
 
-use crate::address::address_of;
 use crate::at_once::NO_MEMORY;
 use crate::fault::ServeFault;
 use crate::listener::Listener;
 use crate::plan::Plan;
 use crate::serving_pooled::{serve_journaled, serve_unrecorded};
-use crate::timed_listener::TimedListener;
-use crate::timed_reader::Waiting;
+use crate::socket_listener::SocketListener;
 use job_pools::{
     EndedJob, Inlet, JobRegister, Keeper, LastingPool, LimitedRunner, NewQueueHistory, NewRegister,
     Outlet, QueuedJob, RegisterId, TurnCloser, TurnInlet, TurnOutlet, queue_in_turns, queue_to_one,
@@ -64,7 +61,7 @@ fn serve_on_pool<
     ensures { IsServingWithAt L.opens L.fails L.passage listener (queue_taken {R = R}) (queue_told {R = R})
         (queue_journal {R = R}) plan.entry.journals.now states.items plan.entry.tenants.now
         plan.entry.bounds plan.entry.sessions (is_some plan.entry.stop) result
-        ⊎ (result ≡ Err (fault.Connection stream.NoMemory)) }
+        ⊎ HasNotBegun result }
 {
     let Queues {
         queue,
@@ -74,6 +71,10 @@ fn serve_on_pool<
         closer,
     } = queues;
     let started = start_workers(rt, scope, jobs, endings, plan.workers, plan.log);
+    if started < plan.workers as usize {
+        closer.close(rt);
+        return Err(ServeFault::Threads);
+    }
     let pool = LastingPool::new(
         rt,
         alloc,
@@ -85,7 +86,7 @@ fn serve_on_pool<
         started > 0,
     );
     let runner = LimitedRunner::new(pool, plan.bounds.open_jobs);
-    // the queue is closed behind each, so that the workers end once nothing waits
+    // the queue is closed behind each, so that the workers end: nobody is told of what waits still
     if plan.journals.is_empty() {
         let served = serve_unrecorded(rt, alloc, listener, runner, plan);
         closer.close(rt);
@@ -119,9 +120,10 @@ fn serve_in_scope<
     ensures { IsServingWithAt L.opens L.fails L.passage listener (queue_taken {R = R}) (queue_told {R = R})
         (queue_journal {R = R}) plan.entry.journals.now states.items plan.entry.tenants.now
         plan.entry.bounds plan.entry.sessions (is_some plan.entry.stop) result
-        ⊎ (result ≡ Err (fault.Connection stream.NoMemory)) }
+        ⊎ HasNotBegun result }
 {
     let Plan {
+        place,
         workers,
         sessions,
         bounds,
@@ -140,9 +142,10 @@ fn serve_in_scope<
                 × (length states.items ≡ length journals.now) }
             ensures { IsServingWithAt L.opens L.fails L.passage listener (queue_taken {R = R}) (queue_told {R = R})
                 (queue_journal {R = R}) journals.entry.now states.items tenants.entry.now bounds sessions
-                (is_some stop.entry) result ⊎ (result ≡ Err (fault.Connection stream.NoMemory)) }
+                (is_some stop.entry) result ⊎ HasNotBegun result }
         {
             let plan = Plan {
+                place,
                 workers,
                 sessions,
                 bounds,
@@ -182,7 +185,7 @@ fn serve_registered<
     ensures { IsServingWithAt L.opens L.fails L.passage listener (queue_taken {R = R}) (queue_told {R = R})
         (queue_journal {R = R}) plan.entry.journals.now states.items plan.entry.tenants.now
         plan.entry.bounds plan.entry.sessions (is_some plan.entry.stop) result
-        ⊎ (result ≡ Err (fault.Connection stream.NoMemory)) }
+        ⊎ HasNotBegun result }
 {
     let (register, keeper) = new_register.named::<J>();
     let Ok((queue, jobs, closer)) = queue_in_turns::<QueuedJob<J>, J>(
@@ -209,18 +212,20 @@ fn serve_registered<
 /// bounds say, on a new desk. Where tenants have doors, each has a new desk of its own, and that one
 /// is for everybody else. Jobs run on the plan's workers, which start once and last: a small job is run
 /// whole by one of them, a large one on as many threads. It returns once the last connection and the
-/// last job have ended, if they do.
+/// jobs that run then have ended. Those that wait then aren't begun: nobody could be told of them, and
+/// a journal has them open.
 ///
 /// While as many jobs are open as the bounds allow, a start is refused by 81. The reports of all but
 /// the last jobs are forgotten, as many as the bounds keep. A connection whose reads wait longer than
 /// they allow, between frames or within one, is given up by 83.
 ///
 /// Where the plan has journals, its desks are the ones that were recovered, and each desk's open jobs
-/// are started again first, once each and in order. A refused start ends its job by the refusal's
-/// number. Each desk's journal takes the record of each change of the desk.
+/// are started again first, once each and in order. Each desk's journal takes the record of each change
+/// of the desk.
 ///
-/// A connection that could not be taken, or that was given up by 83, 84 or 99, counts as served.
-/// Such a fault is answered at the end, as is 99 where there is no memory to begin with.
+/// A connection that was given up by 83, 84 or 99 counts as served, and the fault is answered at the
+/// end. Nothing is served, and no journal takes a record, where there is no memory to begin with (99),
+/// where a worker or a client has no thread, or where an open job can't be started again.
 pub fn serve_listener<R: Threads + Wait + Clock + Sync, L: Listener + Send + Drop>(
     rt: &R,
     alloc: Global,
@@ -235,7 +240,7 @@ pub fn serve_listener<R: Threads + Wait + Clock + Sync, L: Listener + Send + Dro
     ensures { IsServingWithAt L.opens L.fails L.passage listener (queue_taken {R = R}) (queue_told {R = R})
         (queue_journal {R = R}) plan.entry.journals.now states.items plan.entry.tenants.now
         plan.entry.bounds plan.entry.sessions (is_some plan.entry.stop) result
-        ⊎ (result ≡ Err (fault.Connection stream.NoMemory)) }
+        ⊎ HasNotBegun result }
 {
     let Ok(new_register) = NewRegister::new(alloc) else {
         return Err(NO_MEMORY);
@@ -246,15 +251,14 @@ pub fn serve_listener<R: Threads + Wait + Clock + Sync, L: Listener + Send + Dro
     serve_registered::<R, L, Brand>(rt, alloc, new_register, new_history, listener, plan, states)
 }
 
-/// Listens on this port of 127.0.0.1, and serves as [`serve_listener`] does. A write that takes as
-/// long as the bounds allow a read gives its connection up, by 84. It answers [`ServeFault::Socket`]
-/// where the port can't be listened on.
+/// Serves the connections of a port as [`serve_listener`] does. A write that takes as long as the
+/// bounds allow a read gives its connection up, by 84.
 pub fn serve_port<
     R: Net<Stream = TcpStream, Listener = TcpListener> + Threads + Wait + Clock + Sync,
 >(
     rt: &R,
     alloc: Global,
-    port: u16,
+    listener: &TcpListener,
     plan: Plan<'_>,
     states: Vec<KeyedDesk>,
 ) -> Result<(), ServeFault>
@@ -264,12 +268,29 @@ pub fn serve_port<
     requires states { length states.items ≡ length plan.journals.now }
     ensures { IsServingWith (queue_taken {R = R}) (queue_told {R = R}) (queue_journal {R = R})
         plan.entry.journals.now states.items plan.entry.tenants.now plan.entry.bounds plan.entry.sessions
-        (is_some plan.entry.stop) result
-        ⊎ (result ≡ Err (fault.Connection stream.NoMemory)) ⊎ (result ≡ Err fault.Socket) }
+        (is_some plan.entry.stop) result ⊎ HasNotBegun result }
 {
-    let Ok(listener) = TcpListener::bind(rt, address_of(port)) else {
-        return Err(ServeFault::Socket);
-    };
-    let timed = TimedListener::new(&listener, plan.bounds.timeout);
-    serve_listener(rt, alloc, timed, plan, states)
+    serve_listener(rt, alloc, listener, plan, states)
+}
+
+/// Serves the connections of sockets in the file system as [`serve_listener`] does. Where there is one
+/// for grants, a grant of any other connection is answered by 73 and changes nothing. Whoever comes by
+/// the door of a tenant is this tenant, and may not grant.
+pub fn serve_sockets<R: Threads + Wait + Clock + Sync>(
+    rt: &R,
+    alloc: Global,
+    sockets: SocketListener,
+    plan: Plan<'_>,
+    states: Vec<KeyedDesk>,
+) -> Result<(), ServeFault>
+    requires workers { (1 ≤ plan.workers) × (plan.workers ≤ 16) }
+    requires tenants { length plan.tenants.now ≤ 256 }
+    requires doors { vec_len sockets.tenants ≡ length plan.tenants.now }
+    requires journals { HasJournalEach plan.journals.now plan.tenants.now }
+    requires states { length states.items ≡ length plan.journals.now }
+    ensures { IsServingWith (queue_taken {R = R}) (queue_told {R = R}) (queue_journal {R = R})
+        plan.entry.journals.now states.items plan.entry.tenants.now plan.entry.bounds plan.entry.sessions
+        (is_some plan.entry.stop) result ⊎ HasNotBegun result }
+{
+    serve_listener(rt, alloc, sockets, plan, states)
 }

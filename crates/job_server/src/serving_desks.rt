@@ -53,7 +53,7 @@ pub(crate) fn serve_at_desk<
 {
     let kept = KeepingHandler::new(runner, plan.bounds.keep);
     let logged = LoggedHandler::new(rt, plan.log, kept);
-    let handler = CountingHandler::new(rt, plan.log, logged);
+    let handler = CountingHandler::new(rt, plan.log, plan.stop, logged);
     let desk = Desk::new(alloc);
     let served = serve_at_once::<
         R,
@@ -113,7 +113,7 @@ pub(crate) fn serve_at_desks<
     };
     let named = OwnNaming::of(TenantHandler::new(rt, plan.log, limited, plan.bounds.keep));
     let doors = TenantDoors::of(named, keys);
-    let handler = CountingHandler::new(rt, plan.log, doors);
+    let handler = CountingHandler::new(rt, plan.log, plan.stop, doors);
     let served = serve_at_once::<
         R,
         L,

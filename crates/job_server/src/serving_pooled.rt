@@ -1,10 +1,9 @@
 //! What a server's pool serves: one desk or several, with journals or without.
 
-ghost use Rattle.std.specs.Prelude.{◌≡◌, ◌≤◌, ◌+◌, ◌⊎◌, [], Err, is_some, length};
+ghost use Rattle.std.specs.Prelude.{◌≡◌, ◌≤◌, ◌+◌, ◌⊎◌, [], is_some, length};
+ghost use Rattle.job_server.specs.AtOnce.{HasNotBegun};
 ghost use Rattle.job_server.specs.Recorded.{IsServingWithAt, queue_journal, queue_taken, queue_told};
 ghost use Rattle.job_server.specs.TenantServing.{IsServingAt};
-ghost use Rattle.job_server.specs.declared.fault.ServeFault.TheVariants as fault;
-ghost use Rattle.streams.specs.declared.fault.StreamFault.TheVariants as stream;
 
 use crate::fault::ServeFault;
 use crate::listener::Listener;
@@ -67,7 +66,7 @@ pub(crate) fn serve_journaled<
     ensures { IsServingWithAt L.opens L.fails L.passage listener (queue_taken {R = R})
         (queue_told {R = R}) (queue_journal {R = R}) plan.entry.journals.now states.items
         plan.entry.tenants.now plan.entry.bounds plan.entry.sessions (is_some plan.entry.stop) result
-        ⊎ (result ≡ Err (fault.Connection stream.NoMemory)) }
+        ⊎ HasNotBegun result }
 {
     if plan.tenants.is_empty() {
         return serve_recorded(rt, alloc, listener, runner, plan, states);

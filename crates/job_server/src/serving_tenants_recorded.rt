@@ -5,20 +5,18 @@ ghost use Rattle.std.specs.declared.alloc.Global.{Global};
 ghost use Rattle.desk_journal.specs.DeskSteps.{DeskState};
 ghost use Rattle.desk_journal.specs.declared.journaled_desk.OpenJob.{OpenJob};
 ghost use Rattle.shared_journal.specs.declared.journal_queue.JournalQueue.{JournalQueue};
-ghost use Rattle.streams.specs.declared.fault.StreamFault.TheVariants as stream;
 ghost use Rattle.shared_desk.specs.ServerAsked.{answers_counting};
 ghost use Rattle.tenant_desks.specs.AtDoors.{BehindDoors, without_keys};
 ghost use Rattle.tenant_desks.specs.Tenancies.{Tenancy};
 ghost use Rattle.tenant_recorder.specs.TenantsRecorded.{RecordedRunner, door_answers_recorded};
 ghost use Rattle.job_pools.specs.LineBounded.{looks_by_line, new_by_line, starts_by_line, takes_by_line};
 ghost use Rattle.job_pools.specs.declared.line_limited_runner.LineLimitedRunner.{LineLimitedRunner};
-ghost use Rattle.job_server.specs.AtOnce.{IsServingFrom};
+ghost use Rattle.job_server.specs.AtOnce.{HasNotBegun, IsServingFrom};
 ghost use Rattle.job_server.specs.Listening.{AreOf, CameBy};
 ghost use Rattle.job_server.specs.Recorded.{queue_journal, queue_taken, queue_told};
 ghost use Rattle.job_server.specs.TenantLimits.{door_limits};
 ghost use Rattle.job_server.specs.TenantRecorded.{AreFresh, AreRestarted, desks_of, keys_of, open_jobs_of, recovered_tenancy};
 ghost use Rattle.job_server.specs.TenantServing.{door_credits};
-ghost use Rattle.job_server.specs.declared.fault.ServeFault.TheVariants as fault;
 
 use crate::at_once::{NO_MEMORY, each_of, serve_at_once};
 use crate::fault::ServeFault;
@@ -128,11 +126,11 @@ fn recording_handler<'s, R: Wait, N: Runner + Drop>(
 }
 
 /// Serves the connections at recovered desks: one for each of the plan's tenants, and one for
-/// everybody else. First each tenant has its first credit, unless something was granted to it before,
-/// and the open jobs of each desk are started again. Each desk's own door remembers the keys that
+/// everybody else. First the open jobs of each desk are started again, and each tenant has its first
+/// credit, unless something was granted to it before. Each desk's own door remembers the keys that
 /// were recovered with it. The journal of each desk takes the record of each of its changes. The
-/// runner runs the jobs of all, as many of each desk as its limit allows. Refused where there is no
-/// memory for what this takes, ahead of the first start.
+/// runner runs the jobs of all, as many of each desk as its limit allows. Nothing is served where a job
+/// can't be started again, or there is no memory for what this takes.
 pub(crate) fn serve_tenants_recorded<
     's,
     R: Threads + Wait + Clock + Sync,
@@ -163,7 +161,7 @@ pub(crate) fn serve_tenants_recorded<
         plan.entry.sessions (is_some plan.entry.stop) result)
         × AreOf L.opens L.fails listener s.opened
         × All (λ c. CameBy L.opens L.passage c.passage) s.closed)
-        ⊎ (result ≡ Err (fault.Connection stream.NoMemory)) }
+        ⊎ HasNotBegun result }
 {
     let Ok((mut desks, jobs, keys)) = recovered_desks(alloc, plan.tenants, states) else {
         return Err(NO_MEMORY);
@@ -177,12 +175,15 @@ pub(crate) fn serve_tenants_recorded<
     let Ok(mut handler) = recording_handler(rt, alloc, runner, plan) else {
         return Err(NO_MEMORY);
     };
+    match handler.restart(alloc, jobs) {
+        Ok(()) => {}
+        Err(code) => return Err(ServeFault::Restart(code)),
+    }
     let Ok(()) = handler.grant_first(alloc, &mut desks, &tenants) else {
         return Err(NO_MEMORY);
     };
-    handler.restart(alloc, &mut desks, jobs);
     let doors = TenantDoors::of(TenantRecording::of(handler), keys);
-    let counting = CountingHandler::new(rt, plan.log, doors);
+    let counting = CountingHandler::new(rt, plan.log, plan.stop, doors);
     let served = serve_at_once::<
         R,
         L,

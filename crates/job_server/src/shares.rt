@@ -2,7 +2,7 @@
 
 ghost use Rattle.std.specs.Prelude.{◌≡◌, ◌≤◌, ◌/◌, ◌+◌, IfOk, IfSome};
 
-use crate::tenants_listener::MOST_DOORS;
+use crate::socket_listener::MOST_DOORS;
 use refusal::NoMemory;
 use shared_desk::Door;
 use std::alloc::Global;

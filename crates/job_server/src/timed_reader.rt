@@ -1,12 +1,15 @@
 //! A reader of a connection that waits no longer than a host allows.
 
-ghost use Rattle.std.specs.Prelude.{◌≡◌, ℕ, IfOk, Option, option_map};
+ghost use Rattle.std.specs.Prelude.{◌≡◌, ◌≢◌, ℕ, IfErr, IfOk, Option, option_map};
 ghost use Rattle.std.specs.Duration.{as_nanos};
+ghost use Rattle.std.specs.Io.{ReadsAtMost};
+ghost use Rattle.std.specs.Io.KnownBytes.{ReadConsumes};
+ghost use Rattle.std.specs.IoError.{error_kind};
 ghost use Rattle.job_server.specs.Stopping.{IsWaitFor, wait_within};
 
 use crate::frame_place::FramePlace;
-use crate::stop_flag::StopFlag;
 use crate::timed_stream::{FlaggedStream, StoppableStream};
+use server_log::StopFlag;
 use std::io;
 use std::io::{ErrorKind, Read};
 use std::net::TcpStream;
@@ -38,8 +41,9 @@ fn wait_of(left: Option<Duration>, may_stop: bool) -> Option<Duration>
     }
 }
 
-/// Reads a connection: the bytes of its stream, up to where a host stops it. A read fails that
-/// waits too long, or once a frame is not whole in time.
+/// Reads a connection: the bytes of its stream, up to where a host stops it, or its peer lets it go. A
+/// read fails that waits too long, or once a frame is not whole in time. One that a signal ends is
+/// taken up again.
 #[derive(Drop)]
 pub(crate) struct TimedReader<'a, R, S = FlaggedStream<'a, &'a TcpStream>> {
     rt: &'a R,
@@ -128,10 +132,13 @@ impl<R: Clock, S: StoppableStream> TimedReader<'_, R, S> {
 impl<R: Clock, S: StoppableStream> Read for TimedReader<'_, R, S> {
     ghost remaining = { λ r. S.remaining r.stream };
 
-    fn read(&mut self, piece: &mut [u8]) -> io::Result<usize> {
-        if self.seconds == 0 && !self.stream.may_stop() {
-            return self.stream.read(piece);
-        }
+    fn read(&mut self, piece: &mut [u8]) -> io::Result<usize>
+        ensures bound { ReadsAtMost result piece.new }
+        ensures bytes { ReadConsumes (S.remaining self.old.stream) (S.remaining self.new.stream) result
+            piece.new }
+        ensures retried { IfErr result (λ e. error_kind e ≢ ErrorKind.Interrupted) }
+    {
+        let is_timed = self.seconds > 0 || self.stream.may_stop();
         let due = if self.place.is_within() {
             self.due
         } else {
@@ -141,15 +148,22 @@ impl<R: Clock, S: StoppableStream> Read for TimedReader<'_, R, S> {
             if self.stream.is_stopped() {
                 return Ok(0);
             }
-            self.set_wait(due)?;
+            if is_timed && self.set_wait(due).is_err() {
+                return Err(io::Error::from(ErrorKind::TimedOut));
+            }
             match self.stream.read(piece) {
                 Ok(count) => {
                     self.note(&piece[..count]);
                     return Ok(count);
                 }
                 Err(error) => {
-                    if error.kind() != ErrorKind::WouldBlock {
-                        return Err(error);
+                    if self.stream.was_let_go(&error) {
+                        return Ok(0);
+                    }
+                    match error.kind() {
+                        // a look at the flag is due, or a signal came
+                        ErrorKind::WouldBlock | ErrorKind::Interrupted => {}
+                        _ => return Err(error),
                     }
                 }
             }

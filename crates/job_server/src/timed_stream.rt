@@ -1,14 +1,15 @@
-//! Streams whose reads wait so long at most, and that a host may stop.
+//! Streams whose reads and writes wait so long at most, and that a host may stop.
 
-ghost use Rattle.std.specs.Prelude.{◌≡◌, IfOk, true, is_some, option_map};
+ghost use Rattle.std.specs.Prelude.{◌≡◌, IfOk, None, true, is_some, option_map};
 ghost use Rattle.std.specs.Duration.{as_nanos};
 ghost use Rattle.job_server.specs.Stopping.{left_unless};
 ghost use Rattle.std.specs.Io.{ReadsAtMost};
 ghost use Rattle.std.specs.Io.KnownBytes.{IsAtEnd, ReadConsumes};
 
-use crate::stop_flag::{StopFlag, is_stopped};
+use crate::stop_flag::is_stopped;
+use server_log::StopFlag;
 use std::io;
-use std::io::Read;
+use std::io::{ErrorKind, Read, Write};
 use std::net::TcpStream;
 use std::time::Duration;
 
@@ -22,6 +23,18 @@ pub(crate) trait TimedStream: Read {
     /// Lets each read from now on wait so long, and fail then by `WouldBlock`; `None`: any time.
     fn set_wait(&self, wait: Option<Duration>) -> io::Result<()>
         ensures { IfOk result (λ _. was_set self.now (option_map as_nanos wait)) };
+
+    /// Whether a read failed by this since the peer has let the stream go: no byte is left then.
+    fn was_let_go(&self, error: &io::Error) -> bool
+        ensures { result ≡ true → IsAtEnd (Self.remaining self.now) };
+}
+
+// Whether the system says by this that the peer has let a connection go.
+fn is_reset(error: &io::Error) -> bool {
+    matches!(
+        error.kind(),
+        ErrorKind::ConnectionReset | ErrorKind::BrokenPipe
+    )
 }
 
 impl TimedStream for &TcpStream {
@@ -30,6 +43,40 @@ impl TimedStream for &TcpStream {
 
     fn set_wait(&self, wait: Option<Duration>) -> io::Result<()> {
         self.set_read_timeout(wait)
+    }
+
+    fn was_let_go(&self, error: &io::Error) -> bool {
+        is_reset(error)
+    }
+}
+
+/// A stream whose writes can be made to wait no longer than a time.
+pub(crate) trait TimedSink: Write {
+    ghost use Rattle.std.specs.Prelude.{ℕ, Option};
+
+    // Its writes were set to wait so many nanoseconds; none: any time.
+    ghost was_set: { Self → Option ℕ → Type 0 };
+
+    /// Lets each write from now on wait so long, and fail then by `WouldBlock`; `None`: any time.
+    fn set_wait(&self, wait: Option<Duration>) -> io::Result<()>
+        ensures { IfOk result (λ _. was_set self.now (option_map as_nanos wait)) };
+
+    /// Whether a write failed by this since the peer has let the stream go: nobody has what is written
+    /// there.
+    fn was_let_go(&self, error: &io::Error) -> bool
+        ensures { result ≡ true → Self.contents self.now ≡ None };
+}
+
+impl TimedSink for &TcpStream {
+    // The system says nothing of it in a contract.
+    ghost was_set = { λ _ _. Unit {0} };
+
+    fn set_wait(&self, wait: Option<Duration>) -> io::Result<()> {
+        self.set_write_timeout(wait)
+    }
+
+    fn was_let_go(&self, error: &io::Error) -> bool {
+        is_reset(error)
     }
 }
 
@@ -87,6 +134,10 @@ impl<S: TimedStream> TimedStream for FlaggedStream<'_, S> {
 
     fn set_wait(&self, wait: Option<Duration>) -> io::Result<()> {
         self.stream.set_wait(wait)
+    }
+
+    fn was_let_go(&self, error: &io::Error) -> bool {
+        self.stream.was_let_go(error)
     }
 }
 

@@ -6,7 +6,7 @@ use Rattle.sessions.specs.declared.server_totals.RefusalCount.{RefusalCount}
 use Rattle.sessions.specs.declared.server_totals.ServerTotals.{ServerTotals}
 use Rattle.server_log.specs.LogLines.{ending_code}
 use Rattle.server_log.specs.declared.log_line.LogEvent.{LogEvent}
-use Rattle.server_log.specs.declared.log_line.LogEvent.TheVariants.{Ready, Stopping, JournalFailed, Opened, Closed, Started, Ended, Failed, Refused, Granted}
+use Rattle.server_log.specs.declared.log_line.LogEvent.TheVariants.{Ready, Stopping, JournalFailed, Opened, Closed, Started, Ended, Failed, Refused, Granted, Note, Lost}
 use Rattle.server_log.specs.declared.server_counts.Counter.{Counter}
 use Rattle.server_log.specs.declared.server_counts.Counter.TheVariants.{ConnectionsTaken, ConnectionsOver, JobsStarted, JobsOver, JobsFailed}
 use Rattle.server_log.specs.declared.server_counts.JobCounts.{JobCounts}
@@ -23,6 +23,8 @@ counter_of (Ended job spent returned tasks buffer ms) = Some JobsOver
 counter_of (Failed job code) = Some JobsFailed
 counter_of (Refused connection code) = None
 counter_of (Granted connection tenant amount balance) = None
+counter_of (Note text) = None
+counter_of Lost = None
 
 -- a connection that ended by 0 wasn't given up
 abbrev pub given_up : ℕ → Option ℕ
@@ -40,6 +42,8 @@ refusal_code (Ended job spent returned tasks buffer ms) = None
 refusal_code (Failed job code) = Some code
 refusal_code (Refused connection code) = Some code
 refusal_code (Granted connection tenant amount balance) = None
+refusal_code (Note text) = None
+refusal_code Lost = None
 
 -- those that were taken and aren't over are open
 abbrev pub connection_totals : ℕ → ℕ → ConnectionTotals

@@ -8,6 +8,7 @@ ghost use Rattle.shared_desk.specs.ServerAsked as asked;
 
 use crate::log_queue::ServerLog;
 use crate::reply_events::tell_reply;
+use crate::stop_flag::StopFlag;
 use refusal::NoMemory;
 use sessions::{DoorForm, Reply, Request};
 use shared_desk::{Passage, SharedHandler};
@@ -21,12 +22,14 @@ use streams::{Noted, PendingReply, PreparedRequest};
 const NO_REQUEST: u8 = 73;
 
 /// Answers as a handler does, but for what is asked of the server itself: that a log tells, and the
-/// handler is asked what is no request. The log is told of each reply that is a refusal, and by which
-/// connection it was asked. Contracts see it as the handler.
+/// handler is asked what is no request. Where the server is asked to stop, its flag is raised too. The
+/// log is told of each reply that is a refusal, and by which connection it was asked. Contracts see it
+/// as the handler.
 #[derive(Drop)]
 pub struct CountingHandler<'a, R, H> {
     rt: &'a R,
     log: &'a ServerLog,
+    stop: Option<&'a StopFlag>,
     handler: H,
 }
 
@@ -39,11 +42,22 @@ impl<'a, R, H> Model for CountingHandler<'a, R, H> {
 impl<'a, R, H: Drop> CountingHandler<'a, R, H> {
     ghost use Rattle.std.specs.Prelude.{◌≡◌};
 
-    /// The same handler, with the log that counts.
-    pub fn new(rt: &'a R, log: &'a ServerLog, handler: H) -> CountingHandler<'a, R, H>
+    /// The same handler, with the log that counts and the flag, if the server has one, that is raised
+    /// where it is asked to stop.
+    pub fn new(
+        rt: &'a R,
+        log: &'a ServerLog,
+        stop: Option<&'a StopFlag>,
+        handler: H,
+    ) -> CountingHandler<'a, R, H>
         ensures { result ≡ handler }
     {
-        CountingHandler { rt, log, handler }
+        CountingHandler {
+            rt,
+            log,
+            stop,
+            handler,
+        }
     }
 }
 
@@ -55,7 +69,19 @@ fn asks_server(beyond: &Option<DoorForm>) -> bool
         None => false,
         Some(DoorForm::Jobs { .. }) => false,
         Some(DoorForm::Keyed { .. }) => false,
-        Some(DoorForm::Server) => true,
+        Some(DoorForm::Server { .. }) => true,
+    }
+}
+
+// Whether a form asks the server to stop.
+fn asks_to_stop(beyond: &Option<DoorForm>) -> bool
+    ensures { result ≡ asked.asks_to_stop beyond.now }
+{
+    match beyond {
+        None => false,
+        Some(DoorForm::Jobs { .. }) => false,
+        Some(DoorForm::Keyed { .. }) => false,
+        Some(DoorForm::Server { stops }) => *stops,
     }
 }
 
@@ -65,6 +91,23 @@ fn totals_reply<R: Clock>(rt: &R, log: &ServerLog, alloc: Global) -> Result<Pend
 {
     let totals = log.totals(rt, alloc)?;
     PendingReply::of_reply(alloc, &Reply::Server { totals: &totals })
+}
+
+// The same reply. Behind it a flag is raised, if there is one, where the server is to stop.
+fn answer_server<R: Clock>(
+    rt: &R,
+    log: &ServerLog,
+    stop: Option<&StopFlag>,
+    stops: bool,
+    alloc: Global,
+) -> Result<PendingReply, NoMemory>
+    ensures { IfOk result TellsServer }
+{
+    let reply = totals_reply(rt, log, alloc)?;
+    if let (Some(flag), true) = (stop, stops) {
+        flag.raise();
+    }
+    Ok(reply)
 }
 
 impl<D, R: Wait + Clock, H: SharedHandler<D>> SharedHandler<D> for CountingHandler<'_, R, H> {
@@ -90,6 +133,7 @@ impl<D, R: Wait + Clock, H: SharedHandler<D>> SharedHandler<D> for CountingHandl
         request: PreparedRequest,
         beyond: Option<DoorForm>,
     ) -> Result<PendingReply, NoMemory> {
+        let stops = asks_to_stop(&beyond);
         if !asks_server(&beyond) {
             let reply = self
                 .handler
@@ -100,7 +144,7 @@ impl<D, R: Wait + Clock, H: SharedHandler<D>> SharedHandler<D> for CountingHandl
         drop(request);
         let nothing = PreparedRequest::AsItCame(Err(NO_REQUEST));
         drop(self.handler.answer_by(alloc, desk, passage, nothing, None));
-        totals_reply(self.rt, self.log, alloc)
+        answer_server(self.rt, self.log, self.stop, stops, alloc)
     }
 }
 

@@ -1,9 +1,39 @@
-//! The lines of a server's log, as JSON: numbers, words of ours, and the configured names of tenants.
+//! The lines of a server's log: as JSON, or its notes alone in plain words. They have numbers, words of
+//! ours, the configured names of tenants, and what is told of the server's own files.
 
-ghost use Rattle.std.specs.Prelude.{◌≡◌};
+ghost use Rattle.std.specs.Prelude.{◌≡◌, IfOk, map, string_bytes};
+ghost use Rattle.serde_json.specs.Data.{string};
+ghost use Rattle.serde_json.specs.Written.{compact_text};
+ghost use Rattle.server_log.specs.LogLines as lines;
 
+use serde_json::Value;
 use shared_desk::Door;
+use std::alloc::{AllocError, Global};
 use std::fmt;
+
+/// The form of a log's lines.
+#[derive(Clone, Copy, Debug, PartialEq, Eq)]
+pub enum LogForm {
+    /// A JSON object for each event.
+    Json,
+    /// The notes in plain words, and nothing of the other events.
+    Notes,
+}
+
+impl LogForm {
+    ghost use Rattle.std.specs.Prelude.{◌≡◌};
+    ghost use Rattle.server_log.specs.LogLines as lines;
+
+    /// Whether a log of this form has lines of what clients do.
+    pub fn tells_clients(self) -> bool
+        ensures { result ≡ lines.tells_clients self }
+    {
+        match self {
+            LogForm::Json => true,
+            LogForm::Notes => false,
+        }
+    }
+}
 
 /// How a connection ended.
 #[derive(Clone, Copy, Debug, PartialEq, Eq)]
@@ -127,24 +157,78 @@ pub enum LogEvent {
         amount: u32,
         balance: u64,
     },
+    /// The server tells its host this, in words.
+    Note {
+        text: String,
+    },
+    /// Lines were lost: how many the line itself tells.
+    Lost,
 }
 
-impl fmt::Display for LogEvent {
-    ghost use Rattle.std.specs.Prelude.{Some};
-    ghost use Rattle.server_log.specs.LogLines.{event_text};
+// A text in quotes, as JSON has it.
+fn quoted(alloc: Global, text: &str) -> Result<String, AllocError>
+    ensures { IfOk result (λ quoted. string_bytes quoted ≡ compact_text (string text.now)) }
+{
+    let value = Value::String(String::from_str(alloc, text)?);
+    value.to_string(alloc)
+}
 
-    ghost output = { λ event. Some (event_text event) };
+// A byte of a plain line.
+fn plain_byte(byte: u8) -> u8
+    ensures { result ≡ lines.plain_byte byte }
+{
+    if byte < b' ' { b' ' } else { byte }
+}
 
-    fn fmt<W: fmt::Write>(&self, f: &mut fmt::Formatter<W>) -> fmt::Result {
+// A text on one line.
+fn one_line(alloc: Global, text: &str) -> Result<String, AllocError>
+    ensures { IfOk result (λ line. string_bytes line ≡ map lines.plain_byte text.now) }
+{
+    let mut bytes = Vec::with_capacity(alloc, text.len())?;
+    for byte in text.as_bytes() {
+        bytes.push(plain_byte(*byte))?;
+    }
+    // No proof says that these are UTF-8, so they are checked.
+    match String::from_utf8(bytes) {
+        Ok(line) => Ok(line),
+        Err(_) => Err(AllocError),
+    }
+}
+
+impl LogEvent {
+    ghost use Rattle.std.specs.Prelude.{◌≡◌, IfOk, option_map, string_bytes};
+    ghost use Rattle.server_log.specs.LogLines.{event_text, note_of};
+
+    // The words that it tells the host, if it does.
+    fn note(&self) -> Option<&str>
+        ensures { option_map (λ text. text.now) result ≡ note_of self.now }
+    {
         match self {
-            LogEvent::Ready => write!(f, "\"ready\",\"version\":\"0.1.0\""),
-            LogEvent::Stopping => write!(f, "\"stopping\""),
-            LogEvent::JournalFailed => write!(f, "\"journal failed\""),
+            LogEvent::Ready => None,
+            LogEvent::Stopping => None,
+            LogEvent::JournalFailed => None,
+            LogEvent::Opened { .. } => None,
+            LogEvent::Closed { .. } => None,
+            LogEvent::Started { .. } => None,
+            LogEvent::Ended { .. } => None,
+            LogEvent::Failed { .. } => None,
+            LogEvent::Refused { .. } => None,
+            LogEvent::Granted { .. } => None,
+            LogEvent::Note { text } => Some(text.as_str()),
+            LogEvent::Lost => None,
+        }
+    }
+
+    // Its part of a line of JSON.
+    fn json(&self, alloc: Global) -> Result<String, AllocError>
+        ensures { IfOk result (λ text. string_bytes text ≡ event_text self.now) }
+    {
+        match self {
+            LogEvent::Ready => format!(in alloc; "\"ready\",\"version\":\"0.1.0\""),
+            LogEvent::Stopping => format!(in alloc; "\"stopping\""),
+            LogEvent::JournalFailed => format!(in alloc; "\"journal failed\""),
             LogEvent::Opened { connection, by } => {
-                write!(
-                    f,
-                    "\"opened\",\"connection\":{connection},\"socket\":\"{by}\""
-                )
+                format!(in alloc; "\"opened\",\"connection\":{connection},\"socket\":\"{by}\"")
             }
             LogEvent::Closed {
                 connection,
@@ -153,8 +237,7 @@ impl fmt::Display for LogEvent {
                 ms,
             } => {
                 let code = end.code();
-                write!(
-                    f,
+                format!(in alloc;
                     "\"closed\",\"connection\":{connection},\"requests\":{requests},\"code\":{code},\"end\":\"{end}\",\"ms\":{ms}"
                 )
             }
@@ -165,8 +248,7 @@ impl fmt::Display for LogEvent {
                 programs,
                 wait,
             } => {
-                write!(
-                    f,
+                format!(in alloc;
                     "\"started\",\"job\":{job},\"credit\":{credit},\"programs\":{programs},\"wait\":{wait}"
                 )
             }
@@ -177,8 +259,7 @@ impl fmt::Display for LogEvent {
                 programs,
                 wait,
             } => {
-                write!(
-                    f,
+                format!(in alloc;
                     "\"started\",\"job\":{job},\"connection\":{connection},\"credit\":{credit},\"programs\":{programs},\"wait\":{wait}"
                 )
             }
@@ -190,14 +271,15 @@ impl fmt::Display for LogEvent {
                 buffer,
                 ms,
             } => {
-                write!(
-                    f,
+                format!(in alloc;
                     "\"ended\",\"job\":{job},\"spent\":{spent},\"returned\":{returned},\"tasks\":{tasks},\"buffer\":{buffer},\"ms\":{ms}"
                 )
             }
-            LogEvent::Failed { job, code } => write!(f, "\"failed\",\"job\":{job},\"code\":{code}"),
+            LogEvent::Failed { job, code } => format!(in alloc;
+                "\"failed\",\"job\":{job},\"code\":{code}"
+            ),
             LogEvent::Refused { connection, code } => {
-                write!(f, "\"refused\",\"connection\":{connection},\"code\":{code}")
+                format!(in alloc; "\"refused\",\"connection\":{connection},\"code\":{code}")
             }
             LogEvent::Granted {
                 connection,
@@ -205,8 +287,7 @@ impl fmt::Display for LogEvent {
                 amount,
                 balance,
             } => {
-                write!(
-                    f,
+                format!(in alloc;
                     "\"granted\",\"connection\":{connection},\"amount\":{amount},\"balance\":{balance}"
                 )
             }
@@ -216,20 +297,24 @@ impl fmt::Display for LogEvent {
                 amount,
                 balance,
             } => {
-                write!(
-                    f,
+                format!(in alloc;
                     "\"granted\",\"connection\":{connection},\"tenant\":\"{tenant}\",\"amount\":{amount},\"balance\":{balance}"
                 )
             }
+            LogEvent::Note { text } => {
+                let text = quoted(alloc, text)?;
+                format!(in alloc; "\"note\",\"text\":{text}")
+            }
+            LogEvent::Lost => format!(in alloc; "\"lost\""),
         }
     }
 }
 
 // How many lines were lost ahead of one, if any were.
 #[derive(Clone, Copy)]
-struct Lost(u64);
+struct LostMember(u64);
 
-impl fmt::Display for Lost {
+impl fmt::Display for LostMember {
     ghost use Rattle.std.specs.Prelude.{Some};
     ghost use Rattle.server_log.specs.LogLines.{lost_text};
 
@@ -244,6 +329,25 @@ impl fmt::Display for Lost {
     }
 }
 
+// The same as a line of its own.
+#[derive(Clone, Copy)]
+struct LostLine(u64);
+
+impl fmt::Display for LostLine {
+    ghost use Rattle.std.specs.Prelude.{Some};
+    ghost use Rattle.server_log.specs.LogLines.{plain_lost};
+
+    ghost output = { λ lost. Some (plain_lost lost.0) };
+
+    fn fmt<W: fmt::Write>(&self, f: &mut fmt::Formatter<W>) -> fmt::Result {
+        if self.0 == 0 {
+            Ok(())
+        } else {
+            write!(f, "bpfjobs: {} lines lost\n", self.0)
+        }
+    }
+}
+
 /// A line: when it happened, in milliseconds since 1970, what happened, and how many lines ahead of it
 /// were lost.
 #[derive(Drop)]
@@ -253,18 +357,41 @@ pub struct LogLine {
     pub lost: u64,
 }
 
-impl fmt::Display for LogLine {
-    ghost use Rattle.std.specs.Prelude.{Some};
-    ghost use Rattle.server_log.specs.LogLines.{log_text};
+impl LogLine {
+    ghost use Rattle.std.specs.Prelude.{◌≡◌, ◌++◌, IfOk, string_bytes};
+    ghost use Rattle.server_log.specs.LogLines.{json_line, log_text, note_of, plain_lost, plain_note};
 
-    ghost output = { λ line. Some (log_text line) };
+    // As a JSON object.
+    fn json(&self, alloc: Global) -> Result<String, AllocError>
+        ensures { IfOk result (λ text. string_bytes text ≡ json_line self.now) }
+    {
+        let event = self.event.json(alloc)?;
+        let lost = LostMember(self.lost);
+        format!(in alloc; "{{\"time\":{},\"event\":{event}{lost}}}\n", self.time)
+    }
 
-    fn fmt<W: fmt::Write>(&self, f: &mut fmt::Formatter<W>) -> fmt::Result {
-        let lost = Lost(self.lost);
-        write!(
-            f,
-            "{{\"time\":{},\"event\":{}{lost}}}\n",
-            self.time, self.event
-        )
+    // As plain lines.
+    fn plain(&self, alloc: Global) -> Result<String, AllocError>
+        ensures { IfOk result (λ text. string_bytes text
+            ≡ plain_lost self.now.lost ++ plain_note (note_of self.now.event)) }
+    {
+        let lost = LostLine(self.lost);
+        match self.event.note() {
+            Some(note) => {
+                let note = one_line(alloc, note)?;
+                format!(in alloc; "{lost}bpfjobs: {note}\n")
+            }
+            None => format!(in alloc; "{lost}"),
+        }
+    }
+
+    /// Its text in a log of this form.
+    pub(crate) fn text(&self, alloc: Global, form: LogForm) -> Result<String, AllocError>
+        ensures { IfOk result (λ text. string_bytes text ≡ log_text form self.now) }
+    {
+        match form {
+            LogForm::Json => self.json(alloc),
+            LogForm::Notes => self.plain(alloc),
+        }
     }
 }

@@ -50,6 +50,8 @@ impl LogEvent {
             LogEvent::Failed { .. } => Some(Counter::JobsFailed),
             LogEvent::Refused { .. } => None,
             LogEvent::Granted { .. } => None,
+            LogEvent::Note { .. } => None,
+            LogEvent::Lost => None,
         }
     }
 
@@ -69,6 +71,8 @@ impl LogEvent {
             LogEvent::Failed { code, .. } => Some(u64::from(*code)),
             LogEvent::Refused { code, .. } => Some(u64::from(*code)),
             LogEvent::Granted { .. } => None,
+            LogEvent::Note { .. } => None,
+            LogEvent::Lost => None,
         }
     }
 }

@@ -1,5 +1,5 @@
 -- What some doors hear beyond the plain protocol.
-use Rattle.std.specs.Prelude.{◌≡◌, ℕ, List, if◌then◌else◌, Option, Some, None, Result, Ok, Err, option_map, option_and_then, codes}
+use Rattle.std.specs.Prelude.{◌≡◌, ℕ, List, true, false, if◌then◌else◌, Option, Some, None, Result, Ok, Err, option_map, option_and_then, codes}
 use Rattle.std.specs.Str.{bytes_eq}
 use Rattle.serde_json.specs.Data.{Data}
 use Rattle.serde_json.specs.Find.{as_str, get}
@@ -47,7 +47,9 @@ own_form op d =
 
 -- the request of the door for grants that an `op` names
 abbrev pub granter_form : List ℕ → Option DoorForm
-granter_form op = if bytes_eq op (codes "server") then Some Server else None
+granter_form op =
+    if bytes_eq op (codes "server") then Some (Server false)
+    else (if bytes_eq op (codes "stop") then Some (Server true) else None)
 
 -- what is asked beyond the plain protocol, if something is
 unfoldable pub beyond_from : DoorForms → Data → Option DoorForm

@@ -21,6 +21,6 @@ pub enum DoorForm {
     Jobs { from: u64 },
     /// A submit that has a key; none where the member is no key.
     Keyed { key: Option<JobKey> },
-    /// What the server counts: heard at the door for grants.
-    Server,
+    /// What the server counts, and whether it is to stop: heard at the door for grants.
+    Server { stops: bool },
 }

@@ -92,10 +92,12 @@ fn read_granter_form(op: &str) -> Option<DoorForm>
     ensures { result ≡ granter_form op.now }
 {
     if op == "server" {
-        Some(DoorForm::Server)
-    } else {
-        None
+        return Some(DoorForm::Server { stops: false });
     }
+    if op == "stop" {
+        return Some(DoorForm::Server { stops: true });
+    }
+    None
 }
 
 // What is asked beyond the plain protocol, if something is.

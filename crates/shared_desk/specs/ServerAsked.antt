@@ -9,12 +9,19 @@ use Rattle.sessions.specs.declared.server_totals.RefusalCount.{RefusalCount}
 use Rattle.shared_desk.specs.declared.passage.Passage.{Passage}
 use Rattle.shared_desk.specs.Histories.{HistoryEntry, Query}
 
--- whether a form asks what the server counts
+-- whether a form asks what the server counts, also where it is to stop
 abbrev pub asks_server : Option DoorForm → Bool
 asks_server None = false
 asks_server (Some (Jobs from)) = false
 asks_server (Some (Keyed key)) = false
-asks_server (Some Server) = true
+asks_server (Some (Server stops)) = true
+
+-- whether a form asks the server to stop
+abbrev pub asks_to_stop : Option DoorForm → Bool
+asks_to_stop None = false
+asks_to_stop (Some (Jobs from)) = false
+asks_to_stop (Some (Keyed key)) = false
+asks_to_stop (Some (Server stops)) = stops
 
 -- what is no request of the plain protocol, by a passage
 abbrev pub nothing_asked : Passage → Query

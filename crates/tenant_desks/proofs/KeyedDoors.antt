@@ -314,7 +314,7 @@ module _ {R : Type 0} (starts : R → ℕ → AdmittedJob → Result (Unit {0}) 
       by_form None is answer kept = unkeyed (unless_key None is (λ key clash. cc)) (kept_at kept)
       by_form (Some (Jobs from)) is answer kept = unkeyed (unless_key (Some (Jobs from)) is (λ key clash. cc)) (kept_at kept)
       by_form (Some (Keyed None)) is answer kept = unkeyed (unless_key (Some (Keyed None)) is (λ key clash. cc)) (kept_at kept)
-      by_form (Some Server) is answer kept = unkeyed (unless_key (Some Server) is (λ key clash. cc)) (kept_at kept)
+      by_form (Some (Server stops)) is answer kept = unkeyed (unless_key (Some (Server stops)) is (λ key clash. cc)) (kept_at kept)
       by_form (Some (Keyed (Some key))) is answer kept = by_known key (job_among (keys_behind s.1.keys door) key) is refl answer kept
 
     keyed_to : (history : List HistoryEntry) (s : Tenancy × BehindDoors (KeptRunner R)) → plain.Replays (door_answers starts looks takes) (BeginsAtDoors names firsts keep) history s → IsKeyedTo history s

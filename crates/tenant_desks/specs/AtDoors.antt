@@ -50,7 +50,7 @@ told_by_door keys desks door None = None
 told_by_door keys desks door (Some (Jobs from)) = Some (jobs_frame desks door from keys)
 told_by_door keys desks door (Some (Keyed None)) = Some (frame_of (reply.Refused 73 None None))
 told_by_door keys desks door (Some (Keyed (Some key))) = option_map submit_frame (job_among keys key)
-told_by_door keys desks door (Some Server) = Some (frame_of (reply.Refused 73 None None))
+told_by_door keys desks door (Some (Server stops)) = Some (frame_of (reply.Refused 73 None None))
 
 -- a key that has no job yet
 abbrev pub unless_known : Option ℕ → List ℕ → Option (List ℕ)
@@ -63,7 +63,7 @@ new_key keys None = None
 new_key keys (Some (Jobs from)) = None
 new_key keys (Some (Keyed None)) = None
 new_key keys (Some (Keyed (Some key))) = unless_known (job_among keys key) key
-new_key keys (Some Server) = None
+new_key keys (Some (Server stops)) = None
 
 -- the same, where one door remembers one keyed job more
 abbrev pub with_key : List (List KeyedJob) → Door → ℕ → List ℕ → List (List KeyedJob)

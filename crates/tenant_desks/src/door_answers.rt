@@ -99,12 +99,13 @@ fn refuse_server<H: KeyedHandler>(
     desk: &mut TenantDesks,
     passage: Passage,
     request: PreparedRequest,
+    stops: bool,
 ) -> Result<PendingReply, NoMemory>
     requires { H.ready handler.old }
     ensures ready { H.ready handler.new }
     ensures answered { GivesReply (λ reply. answers_at_doors H.answers H.keeps_key
         (desk.old, record { handler = handler.old; keys = keys.now })
-        (query_by passage request (Some Server)) reply
+        (query_by passage request (Some (Server stops))) reply
         (desk.new, record { handler = handler.new; keys = keys.now })) result }
 {
     drop(request);
@@ -234,6 +235,8 @@ pub(crate) fn answer_form<H: KeyedHandler>(
         DoorForm::Keyed { key } => {
             answer_keyed(alloc, handler, keys, desk, passage, request, key)
         }
-        DoorForm::Server => refuse_server(alloc, handler, keys, desk, passage, request),
+        DoorForm::Server { stops } => {
+            refuse_server(alloc, handler, keys, desk, passage, request, stops)
+        }
     }
 }

@@ -1,9 +1,9 @@
 -- The open jobs of recovered desks are started again.
-use Rattle.std.specs.Prelude.{ℕ, List, [], ◌∷◌, ◌++◌, length, Result}
+use Rattle.std.specs.Prelude.{◌≡◌, ℕ, List, [], ◌∷◌, ◌++◌, length, Result}
 use Rattle.accounts.specs.Ledgers.{Ledger}
 use Rattle.job_core.specs.Admitted.{AdmittedJob}
 use Rattle.desk_journal.specs.declared.journaled_desk.OpenJob.{OpenJob}
-use Rattle.desk_recorder.specs.Restarts.{StartsEach}
+use Rattle.desk_recorder.specs.Restarts.{RefusesOne, StartsEach}
 use Rattle.tenant_desks.specs.PlacedRunners.{starts_placed}
 use Rattle.tenant_desks.specs.Tenancies.{ChangesAt}
 use Rattle.tenant_desks.specs.Answering.{for_place}
@@ -20,3 +20,17 @@ pub data RestartsEach {R : Type 0} (starts : R → ℕ → AdmittedJob → Resul
       (for_place (length before) s))
       ds es
       → RestartsEach starts desks runner (before ++ jobs ∷ []) es s
+
+-- The open jobs of the first so many desks were started, and one of the next desk was refused by this
+-- number. None behind it was started.
+pub record RefusesOneOf {R : Type 0}
+    (starts : R → ℕ → AdmittedJob → Result (Unit {0}) ℕ → R → Type 0) (desks : List Ledger)
+    (runner : R) (held : List (List OpenJob)) (code : ℕ) (left : R) : Type 0 where
+  pub before : List (List OpenJob)
+  pub jobs : List OpenJob
+  pub after : List (List OpenJob)
+  pub is : held ≡ before ++ jobs ∷ after
+  pub middle : R
+  pub started : RestartsEach starts desks runner before desks middle
+  pub refused : (desk : Ledger) → RefusesOne (starts_placed starts) desk
+      (for_place (length before) middle) jobs code (for_place (length before) left)

@@ -52,13 +52,14 @@ impl<'a, R, N, Q> Model for RecordingTenantHandler<'a, R, N, Q> {
 }
 
 impl<'a, R, N: Runner + Drop, Q: RecordQueue> RecordingTenantHandler<'a, R, N, Q> {
-    ghost use Rattle.std.specs.Prelude.{◌≡◌, ◌+◌, IfOk, OnOk, length, map, string_bytes, Vec};
+    ghost use Rattle.std.specs.Prelude.{◌≡◌, ◌≤◌, ◌+◌, List, IfErr, IfOk, OnOk, length, map, string_bytes, Vec};
     ghost use Rattle.std.specs.List.{AllZip};
     ghost use Rattle.std.specs.declared.alloc.Global.{Global};
+    ghost use Rattle.accounts.specs.Ledgers.{Ledger};
     ghost use Rattle.desk_journal.specs.declared.journaled_desk.OpenJob.{OpenJob};
     ghost use Rattle.tenant_recorder.specs.Recorders.{AreRecorded, HaveForgotten, IsNewRecorder};
     ghost use Rattle.tenant_recorder.specs.TenantCredits.{AreCredited};
-    ghost use Rattle.tenant_recorder.specs.TenantRestarts.{RestartsEach};
+    ghost use Rattle.tenant_recorder.specs.TenantRestarts.{RefusesOneOf, RestartsEach};
 
     /// A handler with a runner of all jobs, and with a log. The queues are those of
     /// the desks, in order. Refused where there is no memory.
@@ -108,30 +109,22 @@ impl<'a, R, N: Runner + Drop, Q: RecordQueue> RecordingTenantHandler<'a, R, N, Q
     }
 
     /// Starts the open jobs of each recovered desk again, desk after desk, each job once and in
-    /// order. A refused start ends the job by its number, which is recorded.
-    pub fn restart(&mut self, alloc: Global, desks: &mut TenantDesks, jobs: Vec<Vec<OpenJob>>)
+    /// order. The first start that is refused ends that, and its number is the result. Nothing is
+    /// recorded.
+    pub fn restart(&mut self, alloc: Global, jobs: Vec<Vec<OpenJob>>) -> Result<(), u8>
         requires ready { N.ready self.old.runner }
-        requires paired { length self.old.recorders ≡ length desks.old.desks }
-        requires jobs { length jobs.items ≡ length desks.old.desks }
+        requires few { length jobs.items ≤ 257 }
         ensures ready { N.ready self.new.runner }
-        ensures starts { RestartsEach N.starts desks.old.desks self.old.runner
-            (map (λ (v : Vec OpenJob Global). v.items) jobs.items) desks.new.desks
-            self.new.runner }
-        ensures records { AreRecorded Q.taken Q.has_failed self.old.recorders
-            self.new.recorders desks.old.desks desks.new.desks }
-        ensures forgotten { HaveForgotten self.old.keep desks.old.desks
-            self.old.recorders
-            → HaveForgotten self.new.keep desks.new.desks self.new.recorders }
+        ensures starts { OnOk result ((desks : List Ledger) → length desks ≡ length jobs.items
+            → RestartsEach N.starts desks self.old.runner
+            (map (λ (v : Vec OpenJob Global). v.items) jobs.items) desks self.new.runner) }
+        ensures refused { IfErr result (λ code. (desks : List Ledger)
+            → length desks ≡ length jobs.items → RefusesOneOf N.starts desks self.old.runner
+            (map (λ (v : Vec OpenJob Global). v.items) jobs.items) code self.new.runner) }
         ensures same { (self.new.keep ≡ self.old.keep)
-            × (desks.new.names ≡ desks.old.names) }
+            × (self.new.recorders ≡ self.old.recorders) }
     {
-        restart_each(
-            alloc,
-            &mut desks.desks,
-            &mut self.runner,
-            &mut self.recorders,
-            jobs,
-        );
+        restart_each(alloc, &mut self.runner, jobs)
     }
 }
 

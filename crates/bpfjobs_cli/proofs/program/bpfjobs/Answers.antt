@@ -1,15 +1,15 @@
-use Rattle.std.proofs.Common.{rules, ap, ap₂, ◌≡◌, ◌∙◌}
+use Rattle.std.proofs.Common.{ap, ap₂, ◌∙◌}
 use Rattle.std.proofs.lemmas.Result.{IfOk-weaker}
-use Rattle.clap.specs.Words.{App, app_of, with_subcommand}
-use Rattle.bpfjobs_cli.specs.Program.{named_app, requiring, with_text_commands}
+use Rattle.clap.specs.Words.{App, with_subcommand}
+use Rattle.bpfjobs_cli.specs.Program.{with_text_commands}
 use Rattle.bpfjobs_cli.proofs.program.bpfjobs.Goals as goal
 
 pub returns : goal.returns
 returns c =
-    let top : app_of c.subcommand_required.result ≡ requiring named_app = search rules in
-    let first = c.in_ok-command.ensures ∙ ap with_text_commands top in
+    let first = c.in_ok-command.ensures ∙ ap with_text_commands c.requiring.ensures in
     let second = c.in_ok-command-2.ensures.shape c.in_ok-verify.ensures.local ∙ ap₂ with_subcommand first (ap (λ (a : App). a.top) c.in_ok-verify.ensures.app) in
     let third = c.in_ok-command-3.ensures.shape c.in_ok-play.ensures.local ∙ ap₂ with_subcommand second (ap (λ (a : App). a.top) c.in_ok-play.ensures.app) in
     let fourth = c.in_ok-command-4.ensures.shape c.in_ok-run.ensures.local ∙ ap₂ with_subcommand third (ap (λ (a : App). a.top) c.in_ok-run.ensures.app) in
     let fifth = c.in_ok-command-5.ensures.shape c.in_ok-serve.ensures.local ∙ ap₂ with_subcommand fourth (ap (λ (a : App). a.top) c.in_ok-serve.ensures.app) in
-    IfOk-weaker c.subcommand-5.result _ _ (λ r h. h.shape c.in_ok-read_journal.ensures.local ∙ ap₂ with_subcommand fifth (ap (λ (a : App). a.top) c.in_ok-read_journal.ensures.app)) c.subcommand-5.ensures
+    let sixth = c.in_ok-command-6.ensures.shape c.in_ok-read_journal.ensures.local ∙ ap₂ with_subcommand fifth (ap (λ (a : App). a.top) c.in_ok-read_journal.ensures.app) in
+    IfOk-weaker c.subcommand-6.result _ _ (λ r h. h.shape c.in_ok-ask.ensures.local ∙ ap₂ with_subcommand sixth (ap (λ (a : App). a.top) c.in_ok-ask.ensures.app)) c.subcommand-6.ensures

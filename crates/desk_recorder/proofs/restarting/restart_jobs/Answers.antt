@@ -1,14 +1,13 @@
-use Rattle.std.proofs.Common.{refl}
+use Rattle.std.proofs.Common.{◌∷◌, [], ◌∙◌, append_assoc, refl}
 use Rattle.desk_recorder.specs.Restarts.{none_yet, one_more}
-use Rattle.desk_recorder.proofs.Composed.{records_nothing, records_then}
 use Rattle.desk_recorder.proofs.restarting.restart_jobs.Goals as goal
 
 pub jobs-init : goal.jobs-init
-jobs-init g c = (none_yet, c.requires, records_nothing g.Q.RecordQueue.taken g.Q.RecordQueue.has_failed c.args.recorder.now c.args.desk.now c.args.desk.now refl)
+jobs-init g c = (λ desk. none_yet, c.requires, refl)
 
 pub jobs-preserved : goal.jobs-preserved
 jobs-preserved g c = (
-  one_more c.jobs.yielded c.jobs.desk c.jobs.runner c.in-Some.job c.restart_job.result c.restart_job.new.runner c.restart_job.new.desk c.jobs.invariant.0 c.restart_job.ensures.starts c.restart_job.ensures.noted,
-  c.restart_job.ensures.ready,
-  records_then g.Q.RecordQueue.taken g.Q.RecordQueue.has_failed c.args.recorder.now c.jobs.recorder c.restart_job.new.recorder c.args.desk.now c.jobs.desk c.restart_job.new.desk c.jobs.invariant.2 c.restart_job.ensures.records,
+  λ desk. one_more c.jobs.yielded desk c.jobs.runner c.in-Some.job c.start.result c.start.new.self desk (c.jobs.invariant.0 desk) c.start.ensures.starts (rw c.in_ok-start.was refl),
+  c.start.ensures.ready,
+  append_assoc c.jobs.yielded (c.in-Some.job ∷ []) _ ∙ rw (← c.in-Some.ensures.steps.0) c.jobs.invariant.2,
 )

@@ -1,9 +1,12 @@
-use Rattle.std.proofs.Common.{inl}
+use Rattle.std.proofs.Common.{inl, inr, refl}
 use Rattle.std.specs.Prelude.{is_some}
 use Rattle.job_server.specs.Recorded.{queue_journal, queue_taken, queue_told}
 use Rattle.job_server.proofs.ByDoors.{none_if}
 use Rattle.job_server.proofs.ByJournal.{without_journal}
 use Rattle.job_server.proofs.serving.serve_on_pool.Goals as goal
+
+pub returns-then-started-plan : goal.returns-then-started-plan
+returns-then-started-plan g c = inr (inr (inl refl))
 
 pub returns-then-is_empty : goal.returns-then-is_empty
 returns-then-is_empty g c =

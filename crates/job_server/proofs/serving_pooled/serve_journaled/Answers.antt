@@ -11,16 +11,19 @@ use Rattle.job_server.proofs.serving_pooled.serve_journaled.Goals as goal
 
 pub returns-then-is_empty : goal.returns-then-is_empty
 returns-then-is_empty g c =
-    let at = c.serve_recorded.ensures in
     let limited = c.args.runner in
     let plan = c.args.plan in
-    let hosted = recorded_serving (λ r. (r.keeper, r.boards)) (queue_taken {R = g.row.R.Denot}) (queue_told {R = g.row.R.Denot}) _ _ _ (λ r n j x s h. h.0) (λ r n p s h. h) (λ r x s h. h.0) (recovered_state (desks_of c.args.states.items)) plan.bounds limited limited.runner at.0 at.1 plan.sessions _ c.serve_recorded.result
-    refl c.requires.limit c.requires.none at.2 at.3 in
-    inl
-    (with_journal g.L.Listener.opens g.L.Listener.fails g.L.Listener.passage c.args.listener (queue_taken {R = g.row.R.Denot}) (queue_told {R = g.row.R.Denot}) (queue_journal {R = g.row.R.Denot}) plan.journals.now c.args.states.items plan.tenants.now plan.bounds plan.sessions
-    (is_some plan.stop) c.serve_recorded.result (some_journals _ _ c.requires.journals) (none_if plan.tenants.now c.if-is_empty.ensures) hosted.0
-    (subst (AreOf g.L.Listener.opens g.L.Listener.fails c.args.listener) (sym hosted.1) at.4)
-    (subst (All (λ c. CameBy g.L.Listener.opens g.L.Listener.passage c.passage)) (sym hosted.2) at.5))
+    elim c.serve_recorded.ensures [
+      | inl at ↦
+          (let hosted = recorded_serving (λ r. (r.keeper, r.boards)) (queue_taken {R = g.row.R.Denot}) (queue_told {R = g.row.R.Denot}) _ _ _ (λ r n j x s h. h.0) (λ r n p s h. h) (λ r x s h. h.0) (recovered_state (desks_of c.args.states.items)) plan.bounds limited limited.runner at.0 at.1 plan.sessions _ c.serve_recorded.result
+          refl c.requires.limit c.requires.none at.2 at.3 in
+          inl
+          (with_journal g.L.Listener.opens g.L.Listener.fails g.L.Listener.passage c.args.listener (queue_taken {R = g.row.R.Denot}) (queue_told {R = g.row.R.Denot}) (queue_journal {R = g.row.R.Denot}) plan.journals.now c.args.states.items plan.tenants.now plan.bounds plan.sessions
+          (is_some plan.stop) c.serve_recorded.result (some_journals _ _ c.requires.journals) (none_if plan.tenants.now c.if-is_empty.ensures) hosted.0
+          (subst (AreOf g.L.Listener.opens g.L.Listener.fails c.args.listener) (sym hosted.1) at.4)
+          (subst (All (λ c. CameBy g.L.Listener.opens g.L.Listener.passage c.passage)) (sym hosted.2) at.5)))
+      | inr none ↦ inr none
+    ]
 
 pub returns : goal.returns
 returns g c =

@@ -1,8 +1,8 @@
-use Rattle.std.proofs.Common.{◌≡◌, ◌++◌, length, map, Vec}
+use Rattle.std.proofs.Common.{◌≡◌, ◌≤◌, ◌++◌, List, length, map, Vec}
 use Rattle.std.specs.declared.alloc.Global.{Global}
 use Rattle.std.specs.Vec.Iter.{into_iter_items, into_iter_len}
+use Rattle.accounts.specs.Ledgers.{Ledger}
 use Rattle.desk_journal.specs.declared.journaled_desk.OpenJob.{OpenJob}
-use Rattle.tenant_recorder.specs.Recorders.{EachRecorder, IsRecordedPlainly}
 use Rattle.tenant_recorder.specs.TenantRestarts.{RestartsEach}
 use Rattle.tenant_recorder.proofs.desk_restarts.restart_each.Given as goal
 
@@ -12,6 +12,6 @@ invariant-desks g l = record {
   len : into_iter_len l.own-iterator ≡ length (into_iter_items l.own-iterator);
   place : l.place ≡ length l.yielded;
   ready : g.N.Runner.ready l.runner.runner;
-  starts : RestartsEach g.N.Runner.starts l.fn.desks.items l.fn.runner.runner (map (λ (v : Vec OpenJob Global). v.items) l.yielded) l.desks.items l.runner.runner;
-  records : EachRecorder (IsRecordedPlainly g.Q.RecordQueue.taken g.Q.RecordQueue.has_failed) l.fn.recorders.items l.recorders.items l.fn.desks.items l.desks.items;
+  starts : (desks : List Ledger) → length l.yielded ≤ length desks
+      → RestartsEach g.N.Runner.starts desks l.fn.runner.runner (map (λ (v : Vec OpenJob Global). v.items) l.yielded) desks l.runner.runner;
 }

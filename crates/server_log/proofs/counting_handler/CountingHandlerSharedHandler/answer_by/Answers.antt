@@ -10,4 +10,4 @@ returns-clause-err g c =
     let inner = c.answer_by in
     rw (← c.self.view_is)
     (server_err g.H.SharedHandler.answers (c.args.desk.now, c.self.inside.handler) (inner.new.desk, inner.new.self) (record { passage = c.args.passage; asked = asked_of c.args.request; beyond = c.args.beyond })
-    inner.result c.totals_reply.result is inner.ensures.ok inner.ensures.err)
+    inner.result c.answer_server.result is inner.ensures.ok inner.ensures.err)
