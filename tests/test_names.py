@@ -34,7 +34,6 @@ EXCEPTIONS = {
     "IsAlive": ("credit_book machine_model", SAME),
     "IsComplete": ("credit_book machine_model", SAME),
     "program_of": ("reference verifier", SAME),
-    "RefusesOne": ("desk_recorder recovery", SAME),
     "slot_of_fault": ("flow_graph insn_codec", SAME),
     "Source": ("insn_codec streams", HOSTS),
     "spent_in": ("credit_book task_trees", SAME),

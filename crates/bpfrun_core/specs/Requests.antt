@@ -40,4 +40,5 @@ IsBpfrunUsage (usage.Refused error) words =
     × HasKind (fault_of bpfrun_app words) error
 IsBpfrunUsage (usage.Endpoint fault) words = ⊥
 IsBpfrunUsage (usage.Tenant word fault) words = ⊥
+IsBpfrunUsage (usage.Ask fault) words = ⊥
 IsBpfrunUsage usage.NoMemory words = Unit {0}

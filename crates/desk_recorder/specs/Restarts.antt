@@ -21,7 +21,7 @@ pub data StartsEach {R : Type 0} (starts : R → ℕ → AdmittedJob → Result 
 
 -- The first so many jobs were started, and the next one was refused by this number. None behind it was
 -- started.
-pub record RefusesOne {R : Type 0}
+pub record RefusesStart {R : Type 0}
     (starts : R → ℕ → AdmittedJob → Result (Unit {0}) ℕ → R → Type 0) (desk : Ledger) (runner : R)
     (jobs : List OpenJob) (code : ℕ) (left : R) : Type 0 where
   pub before : List OpenJob

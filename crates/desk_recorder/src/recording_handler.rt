@@ -26,7 +26,7 @@ pub struct RecordingHandler<N, Q> {
 impl<N: Runner, Q: RecordQueue> RecordingHandler<N, Q> {
     ghost use Rattle.std.specs.Prelude.{◌≡◌, false, IfErr, OnOk};
     ghost use Rattle.accounts.specs.Ledgers.{Ledger};
-    ghost use Rattle.desk_recorder.specs.Restarts.{RefusesOne, StartsEach};
+    ghost use Rattle.desk_recorder.specs.Restarts.{RefusesStart, StartsEach};
 
     /// A runner, how many reports are kept, and the queue of the records.
     pub fn new(runner: N, keep: KeepLimits, queue: Q) -> RecordingHandler<N, Q>
@@ -48,7 +48,7 @@ impl<N: Runner, Q: RecordQueue> RecordingHandler<N, Q> {
         ensures starts { OnOk result ((desk : Ledger)
             → StartsEach N.starts desk self.old.runner jobs.items desk self.new.runner) }
         ensures refused { IfErr result (λ code. (desk : Ledger)
-            → RefusesOne N.starts desk self.old.runner jobs.items code self.new.runner) }
+            → RefusesStart N.starts desk self.old.runner jobs.items code self.new.runner) }
         ensures same { (self.new.keep ≡ self.old.keep)
             × (self.new.recorder ≡ self.old.recorder) }
     {

@@ -2,7 +2,7 @@
 
 ghost use Rattle.std.specs.Prelude.{IfErr, OnOk};
 ghost use Rattle.accounts.specs.Ledgers.{Ledger};
-ghost use Rattle.desk_recorder.specs.Restarts.{RefusesOne, StartsEach};
+ghost use Rattle.desk_recorder.specs.Restarts.{RefusesStart, StartsEach};
 
 use desk_journal::OpenJob;
 use std::alloc::Global;
@@ -20,7 +20,7 @@ pub fn restart_jobs<N: Runner>(
     ensures starts { OnOk result ((desk : Ledger)
         → StartsEach N.starts desk runner.old jobs.items desk runner.new) }
     ensures refused { IfErr result (λ code. (desk : Ledger)
-        → RefusesOne N.starts desk runner.old jobs.items code runner.new) }
+        → RefusesStart N.starts desk runner.old jobs.items code runner.new) }
 {
     'jobs: for job in jobs {
         let OpenJob { number, job } = job;

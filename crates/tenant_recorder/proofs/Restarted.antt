@@ -5,12 +5,12 @@ use Rattle.std.proofs.lemmas.List.{map-append}
 use Rattle.job_core.specs.Admitted.{AdmittedJob}
 use Rattle.accounts.specs.Ledgers.{Ledger}
 use Rattle.desk_journal.specs.declared.journaled_desk.OpenJob.{OpenJob}
-use Rattle.desk_recorder.specs.Restarts.{RefusesOne, StartsEach, none_yet, one_more}
+use Rattle.desk_recorder.specs.Restarts.{RefusesStart, StartsEach, none_yet, one_more}
 use Rattle.tenant_desks.specs.declared.placed_runner.PlacedRunner.{PlacedRunner}
 use Rattle.tenant_desks.specs.PlacedRunners.{starts_placed}
 use Rattle.tenant_desks.specs.Tenancies.{ChangesAt}
 use Rattle.tenant_desks.specs.Answering.{for_place}
-use Rattle.tenant_recorder.specs.TenantRestarts.{RefusesOneOf, RestartsEach, one_more as one_desk_more}
+use Rattle.tenant_recorder.specs.TenantRestarts.{RefusesStartOf, RestartsEach, one_more as one_desk_more}
 
 -- a place has an item, and stays as it is where it gets that item
 some_at : {A : Type 0} (xs : List A) (n : ℕ) → n < length xs → (x : A) × (slice_get xs n ≡ Some x) × (xs ≡ slice_set xs n x)
@@ -62,19 +62,19 @@ module _ {R : Type 0} (starts : R → ℕ → AdmittedJob → Result (Unit {0}) 
       restarted_more desks runner before desks r jobs place desks s is led (record { before = there.0; was = there.1; after = there.0; changed = started there.0; is = there.2 })
 
   pub placed_refused : (place : ℕ) (r : R) (jobs : List OpenJob) (result : Result (Unit {0}) ℕ) (s : PlacedRunner R)
-      → IfErr result (λ code. (desk : Ledger) → RefusesOne (starts_placed starts) desk (for_place place r) jobs code s)
-      → IfErr result (λ code. (desk : Ledger) → RefusesOne (starts_placed starts) desk (for_place place r) jobs code (for_place place s.runner))
+      → IfErr result (λ code. (desk : Ledger) → RefusesStart (starts_placed starts) desk (for_place place r) jobs code s)
+      → IfErr result (λ code. (desk : Ledger) → RefusesStart (starts_placed starts) desk (for_place place r) jobs code (for_place place s.runner))
   placed_refused place r jobs (Ok done) s refused = tt
   placed_refused place r jobs (Err code) s refused = λ desk.
       let k = refused desk in
       let at_place : s.place ≡ place = k.refused.1 ∙ stays desk (for_place place r) k.before desk k.middle k.started in
-      subst (λ (p : ℕ). RefusesOne (starts_placed starts) desk (for_place place r) jobs code (for_place p s.runner)) at_place k
+      subst (λ (p : ℕ). RefusesStart (starts_placed starts) desk (for_place place r) jobs code (for_place p s.runner)) at_place k
 
   -- a desk of whose jobs one is refused, behind desks whose jobs are all started
   pub refused_at : (desks : List Ledger) (runner : R) (before : List (Vec OpenJob Global)) (r : R) (jobs : Vec OpenJob Global) (after whole : List (Vec OpenJob Global)) (place code : ℕ) (s : R)
       → whole ≡ before ++ jobs ∷ after → place ≡ length before → RestartsEach starts desks runner (map (λ (v : Vec OpenJob Global). v.items) before) desks r
-      → ((desk : Ledger) → RefusesOne (starts_placed starts) desk (for_place place r) jobs.items code (for_place place s))
-      → RefusesOneOf starts desks runner (map (λ (v : Vec OpenJob Global). v.items) whole) code s
+      → ((desk : Ledger) → RefusesStart (starts_placed starts) desk (for_place place r) jobs.items code (for_place place s))
+      → RefusesStartOf starts desks runner (map (λ (v : Vec OpenJob Global). v.items) whole) code s
   refused_at desks runner before r jobs after whole place code s is at led refused = record {
     before = map (λ (v : Vec OpenJob Global). v.items) before;
     jobs = jobs.items;
@@ -82,5 +82,5 @@ module _ {R : Type 0} (starts : R → ℕ → AdmittedJob → Result (Unit {0}) 
     is = ap (map (λ (v : Vec OpenJob Global). v.items)) is ∙ map-append (λ (v : Vec OpenJob Global). v.items) before (jobs ∷ after);
     middle = r;
     started = led;
-    refused = λ desk. subst (λ (n : ℕ). RefusesOne (starts_placed starts) desk (for_place n r) jobs.items code (for_place n s)) (at ∙ sym (as_many before)) (refused desk);
+    refused = λ desk. subst (λ (n : ℕ). RefusesStart (starts_placed starts) desk (for_place n r) jobs.items code (for_place n s)) (at ∙ sym (as_many before)) (refused desk);
   }

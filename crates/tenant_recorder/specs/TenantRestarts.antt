@@ -3,7 +3,7 @@ use Rattle.std.specs.Prelude.{◌≡◌, ℕ, List, [], ◌∷◌, ◌++◌, len
 use Rattle.accounts.specs.Ledgers.{Ledger}
 use Rattle.job_core.specs.Admitted.{AdmittedJob}
 use Rattle.desk_journal.specs.declared.journaled_desk.OpenJob.{OpenJob}
-use Rattle.desk_recorder.specs.Restarts.{RefusesOne, StartsEach}
+use Rattle.desk_recorder.specs.Restarts.{RefusesStart, StartsEach}
 use Rattle.tenant_desks.specs.PlacedRunners.{starts_placed}
 use Rattle.tenant_desks.specs.Tenancies.{ChangesAt}
 use Rattle.tenant_desks.specs.Answering.{for_place}
@@ -23,7 +23,7 @@ pub data RestartsEach {R : Type 0} (starts : R → ℕ → AdmittedJob → Resul
 
 -- The open jobs of the first so many desks were started, and one of the next desk was refused by this
 -- number. None behind it was started.
-pub record RefusesOneOf {R : Type 0}
+pub record RefusesStartOf {R : Type 0}
     (starts : R → ℕ → AdmittedJob → Result (Unit {0}) ℕ → R → Type 0) (desks : List Ledger)
     (runner : R) (held : List (List OpenJob)) (code : ℕ) (left : R) : Type 0 where
   pub before : List (List OpenJob)
@@ -32,5 +32,5 @@ pub record RefusesOneOf {R : Type 0}
   pub is : held ≡ before ++ jobs ∷ after
   pub middle : R
   pub started : RestartsEach starts desks runner before desks middle
-  pub refused : (desk : Ledger) → RefusesOne (starts_placed starts) desk
+  pub refused : (desk : Ledger) → RefusesStart (starts_placed starts) desk
       (for_place (length before) middle) jobs code (for_place (length before) left)

@@ -4,10 +4,10 @@ ghost use Rattle.std.specs.Prelude.{◌≡◌, ◌≤◌, ◌<◌, List, IfErr, 
 ghost use Rattle.std.specs.declared.alloc.Global.{Global};
 ghost use Rattle.accounts.specs.Ledgers.{Ledger};
 ghost use Rattle.desk_journal.specs.declared.journaled_desk.OpenJob.{OpenJob};
-ghost use Rattle.desk_recorder.specs.Restarts.{RefusesOne, StartsEach};
+ghost use Rattle.desk_recorder.specs.Restarts.{RefusesStart, StartsEach};
 ghost use Rattle.tenant_desks.specs.Answering.{for_place};
 ghost use Rattle.tenant_desks.specs.PlacedRunners.{starts_placed};
-ghost use Rattle.tenant_recorder.specs.TenantRestarts.{RefusesOneOf, RestartsEach};
+ghost use Rattle.tenant_recorder.specs.TenantRestarts.{RefusesStartOf, RestartsEach};
 
 use desk_journal::OpenJob;
 use desk_recorder::restart_jobs;
@@ -27,7 +27,7 @@ fn restart_at<N: Runner>(
     ensures ready { N.ready runner.new.runner }
     ensures starts { OnOk result ((desk : Ledger) → StartsEach (starts_placed N.starts) desk
         (for_place place runner.old.runner) jobs.items desk (for_place place runner.new.runner)) }
-    ensures refused { IfErr result (λ code. (desk : Ledger) → RefusesOne (starts_placed N.starts) desk
+    ensures refused { IfErr result (λ code. (desk : Ledger) → RefusesStart (starts_placed N.starts) desk
         (for_place place runner.old.runner) jobs.items code (for_place place runner.new.runner)) }
 {
     runner.place = place as u16;
@@ -48,7 +48,7 @@ pub(crate) fn restart_each<N: Runner>(
         → RestartsEach N.starts desks runner.old.runner
         (map (λ (v : Vec OpenJob Global). v.items) jobs.items) desks runner.new.runner) }
     ensures refused { IfErr result (λ code. (desks : List Ledger) → length desks ≡ length jobs.items
-        → RefusesOneOf N.starts desks runner.old.runner
+        → RefusesStartOf N.starts desks runner.old.runner
         (map (λ (v : Vec OpenJob Global). v.items) jobs.items) code runner.new.runner) }
 {
     let mut place = 0;

@@ -59,7 +59,7 @@ impl<'a, R, N: Runner + Drop, Q: RecordQueue> RecordingTenantHandler<'a, R, N, Q
     ghost use Rattle.desk_journal.specs.declared.journaled_desk.OpenJob.{OpenJob};
     ghost use Rattle.tenant_recorder.specs.Recorders.{AreRecorded, HaveForgotten, IsNewRecorder};
     ghost use Rattle.tenant_recorder.specs.TenantCredits.{AreCredited};
-    ghost use Rattle.tenant_recorder.specs.TenantRestarts.{RefusesOneOf, RestartsEach};
+    ghost use Rattle.tenant_recorder.specs.TenantRestarts.{RefusesStartOf, RestartsEach};
 
     /// A handler with a runner of all jobs, and with a log. The queues are those of
     /// the desks, in order. Refused where there is no memory.
@@ -119,7 +119,7 @@ impl<'a, R, N: Runner + Drop, Q: RecordQueue> RecordingTenantHandler<'a, R, N, Q
             → RestartsEach N.starts desks self.old.runner
             (map (λ (v : Vec OpenJob Global). v.items) jobs.items) desks self.new.runner) }
         ensures refused { IfErr result (λ code. (desks : List Ledger)
-            → length desks ≡ length jobs.items → RefusesOneOf N.starts desks self.old.runner
+            → length desks ≡ length jobs.items → RefusesStartOf N.starts desks self.old.runner
             (map (λ (v : Vec OpenJob Global). v.items) jobs.items) code self.new.runner) }
         ensures same { (self.new.keep ≡ self.old.keep)
             × (self.new.recorders ≡ self.old.recorders) }
