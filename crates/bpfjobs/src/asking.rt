@@ -4,7 +4,7 @@ use bpfjobs_cli::{
     Answer, Ask, Endpoint, FAILED, JobDeclined, ServerQuestion, ask_frame, ask_request, read_all,
     reply_status, tell,
 };
-use job_server::address_of;
+use job_server::{SocketErrorWords, address_of};
 use std::alloc::Global;
 use std::io::{ErrorKind, Read, Write};
 use std::net::{Net, TcpStream};
@@ -121,14 +121,9 @@ fn told<R: Eprint>(rt: &R, endpoint: &Endpoint, what: &str, why: &str) -> u8 {
 // Tells why no connection was made, and gives the status.
 fn not_connected<R: Eprint>(rt: &R, alloc: Global, endpoint: &Endpoint, error: &io::Error) -> u8 {
     let what = "cannot connect to ";
-    match error.kind() {
-        ErrorKind::NotFound => told(rt, endpoint, what, "no such file or directory"),
-        ErrorKind::ConnectionRefused => told(rt, endpoint, what, "connection refused"),
-        ErrorKind::PermissionDenied => told(rt, endpoint, what, "permission denied"),
-        _ => match format!(in alloc; "{error}") {
-            Ok(why) => told(rt, endpoint, what, &why),
-            Err(_) => told(rt, endpoint, what, "no memory"),
-        },
+    match format!(in alloc; "{}", SocketErrorWords(error)) {
+        Ok(why) => told(rt, endpoint, what, &why),
+        Err(_) => told(rt, endpoint, what, "no memory"),
     }
 }
 

@@ -42,8 +42,8 @@ pub struct Beginning {
     pub stop: Option<Arc<StopFlag, Global>>,
 }
 
-/// Opens the journals and the sockets of a server, with what the threads beside it do. Where it can't, a line tells why, and the program ends
-/// with this status.
+/// Opens the journals and the sockets of a server, with what the threads beside it do. Where it
+/// can't, a line tells why, and the program ends with this status.
 pub fn begin<R>(
     rt: &R,
     alloc: Global,

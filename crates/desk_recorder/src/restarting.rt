@@ -10,11 +10,7 @@ use streams::Runner;
 
 /// Starts each open job of a desk once, in this order. The first start that is refused ends that, and
 /// its number is the result: the desk and its records stay as they are.
-pub fn restart_jobs<N: Runner>(
-    alloc: Global,
-    runner: &mut N,
-    jobs: Vec<OpenJob>,
-) -> Result<(), u8>
+pub fn restart_jobs<N: Runner>(alloc: Global, runner: &mut N, jobs: Vec<OpenJob>) -> Result<(), u8>
     requires { N.ready runner.old }
     ensures ready { N.ready runner.new }
     ensures starts { OnOk result ((desk : Ledger)

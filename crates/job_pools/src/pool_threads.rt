@@ -52,8 +52,8 @@ fn work<R: Threads + Wait + Clock + Sync, J: RegisterId>(
 }
 
 /// Starts a worker for each of these ends of the queue of jobs, and tells how many could be started.
-/// They end once the queue is closed: none begins with a job that waits then. A log is told of each job. A large job is run on so
-/// many threads, 1 to 16.
+/// They end once the queue is closed: none begins with a job that waits then. A log is told of each
+/// job. A large job is run on so many threads, 1 to 16.
 pub fn start_workers<'s, E: 's, R: Threads + Wait + Clock + Sync, J: RegisterId + Send + Sync + 's>(
     rt: &'s R,
     scope: &Scope<'s, E>,

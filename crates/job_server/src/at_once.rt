@@ -294,23 +294,27 @@ fn serve_clients<
     log: &ServerLog,
     place: &str,
 ) -> bool {
-    thread::scope(thread::scope_env(), rt, |scope| -> bool
-        requires { IsSend L.row × IsSend D.row × IsSend H.row × IsSend N.row × IsSend J.row }
-    {
-        // no client takes a connection until all of them are there
-        let mut held = entrance.lock(rt);
-        let begun = start_clients(
-            rt, scope, alloc, history, entrance, lock, clients, waiting, shares, journals, makers,
-            sync, log,
-        );
-        if begun {
-            log.tell(rt, LogEvent::Ready);
-            note(rt, log, format!(in alloc; "listening on {place}"));
-        } else {
-            held.cancel();
-        }
-        begun
-    })
+    thread::scope(
+        thread::scope_env(),
+        rt,
+        |scope| -> bool
+            requires { IsSend L.row × IsSend D.row × IsSend H.row × IsSend N.row × IsSend J.row }
+        {
+            // no client takes a connection until all of them are there
+            let mut held = entrance.lock(rt);
+            let begun = start_clients(
+                rt, scope, alloc, history, entrance, lock, clients, waiting, shares, journals,
+                makers, sync, log,
+            );
+            if begun {
+                log.tell(rt, LogEvent::Ready);
+                note(rt, log, format!(in alloc; "listening on {place}"));
+            } else {
+                held.cancel();
+            }
+            begun
+        },
+    )
 }
 
 // `serve_at_once` under a name for the history.

@@ -68,6 +68,6 @@ mod opening;
 mod own_socket;
 mod socket_listener;
 
-pub use opening::{ListenFault, OpenSockets, open_sockets, remove_names};
+pub use opening::{ListenFault, OpenSockets, SocketErrorWords, open_sockets, remove_names};
 pub use own_socket::{OwnSocket, SocketAccess, listen_at};
 pub use socket_listener::{AskedSocket, SocketListener};

@@ -12,6 +12,21 @@ use std::net::Net;
 use std::os::unix::net::UnixListener;
 use std::{fmt, io};
 
+/// The words for an error of a socket.
+pub struct SocketErrorWords<'a>(pub &'a io::Error);
+
+impl fmt::Display for SocketErrorWords<'_> {
+    fn fmt<W: fmt::Write>(&self, f: &mut fmt::Formatter<W>) -> fmt::Result {
+        match self.0.kind() {
+            ErrorKind::AddrInUse | ErrorKind::AlreadyExists => write!(f, "address already in use"),
+            ErrorKind::ConnectionRefused => write!(f, "connection refused"),
+            ErrorKind::NotFound => write!(f, "no such file or directory"),
+            ErrorKind::PermissionDenied => write!(f, "permission denied"),
+            _ => write!(f, "{}", self.0),
+        }
+    }
+}
+
 /// A place where a server can't listen, and why.
 #[derive(Drop)]
 pub struct ListenFault<'a> {
@@ -23,19 +38,8 @@ pub struct ListenFault<'a> {
 
 impl fmt::Display for ListenFault<'_> {
     fn fmt<W: fmt::Write>(&self, f: &mut fmt::Formatter<W>) -> fmt::Result {
-        let place = self.place;
-        match self.error.kind() {
-            ErrorKind::AddrInUse | ErrorKind::AlreadyExists => {
-                write!(f, "cannot listen on {place}: address already in use")
-            }
-            ErrorKind::NotFound => {
-                write!(f, "cannot listen on {place}: no such file or directory")
-            }
-            ErrorKind::PermissionDenied => {
-                write!(f, "cannot listen on {place}: permission denied")
-            }
-            _ => write!(f, "cannot listen on {place}: {}", self.error),
-        }
+        let words = SocketErrorWords(&self.error);
+        write!(f, "cannot listen on {}: {words}", self.place)
     }
 }
 
