@@ -13,6 +13,7 @@ use std::os::unix::net::UnixListener;
 use std::{fmt, io};
 
 /// The words for an error of a socket.
+#[derive(Clone, Copy)]
 pub struct SocketErrorWords<'a>(pub &'a io::Error);
 
 impl fmt::Display for SocketErrorWords<'_> {
