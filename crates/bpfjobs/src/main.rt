@@ -10,8 +10,10 @@ ghost use Rattle.bpfjobs.specs.Listening.{IsBeginningOf};
 
 mod asking;
 mod beginning;
+mod command_input;
 mod foreign_file;
 mod host_notes;
+mod input_faults;
 mod journal_compacting;
 mod journal_faults;
 mod journal_following;
@@ -32,7 +34,9 @@ use bpfjobs_cli::{
     Command, CommandRequest, FAILED, Serve, UNREAD, perform, perform_alone, print_usage, request,
     words,
 };
+use command_input::{unanswered, unread};
 use host_notes::tell_host;
+use input_faults::{JobForm, job_form, tell_input_fault};
 use job_server::ServeFault;
 use journal_reading::print_journal;
 use server_log::ServerLog;
@@ -55,32 +59,50 @@ use tenant_file::with_file;
 
 // Reads the input, prints the answer of a command that needs no thread, and gives the status. It
 // returns if the input and the output do.
-fn answer<R: Input + Print>(rt: &R, alloc: Global, command: Command) -> u8
+fn answer<R>(rt: &R, alloc: Global, command: Command, path: Option<&str>) -> u8
+where
+    R: Input + Print + Eprint + Files<File = File>,
     requires { NeedsNoThread command }
 {
-    let mut reader = Tap::new(rt.reader());
+    let form = job_form(&command);
     let mut writer = Tap::new(io::writer(rt));
-    match perform_alone(alloc, command, &mut reader, &mut writer) {
-        Ok(status) => status,
-        Err(_) => FAILED,
+    let answered = match path {
+        Some(path) => match File::open(rt, path) {
+            Ok(file) => perform_alone(alloc, command, &mut Tap::new(file), &mut writer),
+            Err(error) => return unread(rt, path, &error),
+        },
+        None => perform_alone(alloc, command, &mut Tap::new(rt.reader()), &mut writer),
+    };
+    match answered {
+        Ok(done) => {
+            tell_input_fault(rt, alloc, form, path, &done);
+            done.status
+        }
+        Err(fault) => unanswered(rt, path, fault),
     }
 }
 
 // The same for a job that so many threads run, for which it waits.
-fn run<R: Input + Print + Threads + Wait + Sync>(rt: &R, alloc: Global, workers: u32) -> u8
+fn run<R>(rt: &R, alloc: Global, workers: u32, path: Option<&str>) -> u8
+where
+    R: Input + Print + Eprint + Files<File = File> + Threads + Wait + Sync,
     requires { (1 ≤ workers) × (workers ≤ 16) }
 {
-    let mut reader = Tap::new(rt.reader());
+    let command = Command::Run { workers };
     let mut writer = Tap::new(io::writer(rt));
-    match perform(
-        rt,
-        alloc,
-        Command::Run { workers },
-        &mut reader,
-        &mut writer,
-    ) {
-        Ok(status) => status,
-        Err(_) => FAILED,
+    let answered = match path {
+        Some(path) => match File::open(rt, path) {
+            Ok(file) => perform(rt, alloc, command, &mut Tap::new(file), &mut writer),
+            Err(error) => return unread(rt, path, &error),
+        },
+        None => perform(rt, alloc, command, &mut Tap::new(rt.reader()), &mut writer),
+    };
+    match answered {
+        Ok(done) => {
+            tell_input_fault(rt, alloc, Some(JobForm::Plain), path, &done);
+            done.status
+        }
+        Err(fault) => unanswered(rt, path, fault),
     }
 }
 
@@ -88,14 +110,17 @@ fn run<R: Input + Print + Threads + Wait + Sync>(rt: &R, alloc: Global, workers:
 // nothing is read, where nothing is to be shown.
 fn show<R>(rt: &R, request: &CommandRequest<'_>) -> Option<u8>
 where
-    R: Input + Print + Eprint + Files + Threads + Wait + Sync + AllocGlobal,
+    R: Input + Print + Eprint + Files<File = File> + Threads + Wait + Sync + AllocGlobal,
     requires { IsInRange request.now.command }
 {
     let shown = &request.shown;
+    let input = request.input;
     match &request.command {
-        Command::Play if shown.traces || shown.trace_json.is_some() => Some(play_shown(rt, shown)),
+        Command::Play if shown.traces || shown.trace_json.is_some() => {
+            Some(play_shown(rt, input, shown))
+        }
         Command::Run { workers } => match shown.tree {
-            Some(path) => Some(run_shown(rt, *workers, path)),
+            Some(path) => Some(run_shown(rt, *workers, input, path)),
             None => None,
         },
         _ => None,
@@ -110,7 +135,7 @@ where
         + Input
         + Print
         + Eprint
-        + Files
+        + Files<File = File>
         + Net<Stream = TcpStream, Listener = TcpListener>
         + Threads
         + Wait
@@ -129,14 +154,15 @@ where
     if let Some(status) = show(rt, &request) {
         return Err(status);
     }
+    let input = request.input;
     let server = match request.command {
         Command::Serve(server) => server,
-        Command::Run { workers } => return Err(run(rt, alloc, workers)),
+        Command::Run { workers } => return Err(run(rt, alloc, workers, input)),
         Command::Journal { path, checks } => {
             return Err(print_journal(rt, alloc, &path, checks));
         }
         Command::Ask(ask) => return Err(ask_server(rt, alloc, &ask)),
-        command => return Err(answer(rt, alloc, command)),
+        command => return Err(answer(rt, alloc, command, input)),
     };
     let server = match with_file(rt, alloc, server) {
         Ok(server) => server,

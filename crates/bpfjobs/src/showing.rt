@@ -2,26 +2,18 @@
 
 ghost use Rattle.std.specs.Prelude.{◌≤◌};
 
+use crate::command_input::whole_input;
 use bpfjobs_cli::{
-    Answer, FAILED, Shown, answer_play, answer_run, read_all, step_lines, step_objects, steps_of,
-    tell, tree_in, tree_text,
+    Answer, FAILED, Shown, answer_play, answer_run, step_lines, step_objects, steps_of, tell,
+    tree_in, tree_text,
 };
 use refusal::NoMemory;
 use run_trace::JobStep;
-use std::rt::Files;
+use std::fs::{File, Files};
 use std::sync::Wait;
 use std::thread::Threads;
 use std::{fs, io};
 use streams::Tap;
-
-// All of the input; none where it can't be read, or there is no memory for it.
-fn input<R: Input + AllocGlobal>(rt: &R) -> Option<Vec<u8>> {
-    let mut reader = Tap::new(rt.reader());
-    match read_all(rt.alloc(), &mut reader) {
-        Ok(input) => Some(input),
-        Err(_) => None,
-    }
-}
 
 // Writes a file, or prints a line that tells why it can't be written. Tells which.
 fn written<R: Files + Eprint>(rt: &R, path: &str, text: &str) -> bool {
@@ -71,13 +63,14 @@ fn told_steps<R: Files + Eprint + AllocGlobal>(
 }
 
 /// Plays a job by its schedule, tells its steps, prints how far it comes, and gives the status.
-pub fn play_shown<R: Input + Print + Eprint + Files + AllocGlobal>(
-    rt: &R,
-    shown: &Shown<'_>,
-) -> u8 {
+pub fn play_shown<R>(rt: &R, path: Option<&str>, shown: &Shown<'_>) -> u8
+where
+    R: Input + Print + Eprint + Files<File = File> + AllocGlobal,
+{
     let alloc = rt.alloc();
-    let Some(input) = input(rt) else {
-        return FAILED;
+    let input = match whole_input(rt, alloc, path) {
+        Ok(input) => input,
+        Err(status) => return status,
     };
     let Ok(found) = steps_of(alloc, &input) else {
         return FAILED;
@@ -92,23 +85,24 @@ pub fn play_shown<R: Input + Print + Eprint + Files + AllocGlobal>(
 
 /// Runs a job on so many threads, writes its tree into a file, prints what it comes to, and gives
 /// the status.
-pub fn run_shown<R>(rt: &R, workers: u32, path: &str) -> u8
+pub fn run_shown<R>(rt: &R, workers: u32, path: Option<&str>, tree: &str) -> u8
 where
-    R: Input + Print + Eprint + Files + Threads + Wait + Sync + AllocGlobal,
+    R: Input + Print + Eprint + Files<File = File> + Threads + Wait + Sync + AllocGlobal,
     requires { (1 ≤ workers) × (workers ≤ 16) }
 {
     let alloc = rt.alloc();
-    let Some(input) = input(rt) else {
-        return FAILED;
+    let input = match whole_input(rt, alloc, path) {
+        Ok(input) => input,
+        Err(status) => return status,
     };
     let Ok(found) = tree_in(alloc, &input) else {
         return FAILED;
     };
-    if let Some(tree) = found {
-        let Ok(text) = tree_text(alloc, &tree) else {
+    if let Some(found) = found {
+        let Ok(text) = tree_text(alloc, &found) else {
             return FAILED;
         };
-        if !written(rt, path, text.as_str()) {
+        if !written(rt, tree, text.as_str()) {
             return FAILED;
         }
     }

@@ -14,7 +14,7 @@ use Rattle.clap.specs.declared.builder.value_parser.ValueParser.TheVariants as v
 use Rattle.clap.proofs.OnLiterals.{clap_on_literals}
 use Rattle.bpfjobs_cli.specs.Commands.{AreOptionsOf, IsMaybeNumber, IsNumberIn, SaysCommand, says_assemble, says_disassemble, says_verify, says_play, says_run, says_serve, says_journal, says_ask, sessions_said}
 use Rattle.bpfjobs_cli.specs.declared.commands.ServeOptions.{ServeOptions}
-use Rattle.bpfjobs_cli.specs.Program.{amount_rule, ask_app, bpfjobs_app, from_rule, wait_rule, word_rule, journal_app, journal_file_rule, need_rule, port_rule, run_app, play_app, serve_app, sessions_rule, tenant_jobs_rule, clients_rule, timeout_rule, open_jobs_rule, keep_rule, keep_bytes_rule, verify_app, workers_rule}
+use Rattle.bpfjobs_cli.specs.Program.{amount_rule, assemble_app, disassemble_app, ask_app, bpfjobs_app, from_rule, wait_rule, word_rule, journal_app, journal_file_rule, need_rule, port_rule, run_app, play_app, serve_app, sessions_rule, tenant_jobs_rule, clients_rule, timeout_rule, open_jobs_rule, keep_rule, keep_bytes_rule, verify_app, workers_rule}
 use Rattle.bpfjobs_cli.proofs.NumberLemmas.{signed_number, unsigned_number}
 use Rattle.bpfjobs_cli.proofs.RowLemmas.{Among, Each, HasValue, IsOnly, On, both, default_value, maybe_value, required_value}
 use Rattle.bpfjobs_cli.proofs.SubcommandLemmas.{Gives, HasNoAlias, subcommand_gives}
@@ -72,16 +72,16 @@ pub plain : is_simple_and_free bpfjobs_app ≡ true
 unfolding clap_on_literals
 plain = refl
 
-assemble : Gives SaysCommand (leaf (new_app (codes "assemble")).top)
+assemble : Gives SaysCommand (leaf assemble_app.top)
 assemble words own none = says_assemble refl
 
-disassemble : Gives SaysCommand (leaf (new_app (codes "disassemble")).top)
+disassemble : Gives SaysCommand (leaf disassemble_app.top)
 disassemble words own none = says_disassemble refl
 
 verify : Gives SaysCommand (leaf verify_app.top)
 verify words own none =
     let need = wanted (rule need_rule) 0 4294967295 refl (omega arith) refl (leaf verify_app.top) words
-    ((λ same. refl), (other, tt)) (inl refl) none refl refl in
+    ((λ same. refl), (other, (other, tt))) (inl refl) none refl refl in
     says_verify refl need
 
 play : Gives SaysCommand (leaf play_app.top)
@@ -90,7 +90,7 @@ play words own none = says_play refl
 run : Gives SaysCommand (leaf run_app.top)
 run words own none =
     let workers = left_out (rule workers_rule) 1 16 refl (omega arith) refl (leaf run_app.top) words
-    ((λ same. refl), (other, (other, tt))) (inl refl) none (omega arith) in
+    ((λ same. refl), (other, (other, (other, tt)))) (inl refl) none (omega arith) in
     says_run refl workers
 
 -- whether an argument that is a flag is given

@@ -175,14 +175,26 @@ from_rule = record (new_rule (codes "from")) {
   parser = Some (vp.Unsigned 1 18446744073709551615);
 }
 
+-- the file that is read in place of the standard input
+abbrev pub input_rule : Rule
+input_rule = record (new_rule (codes "input")) { value_names = 1 }
+
+abbrev pub assemble_app : App
+assemble_app = with_rule (new_app (codes "assemble")) input_rule
+
+abbrev pub disassemble_app : App
+disassemble_app = with_rule (new_app (codes "disassemble")) input_rule
+
 abbrev pub verify_app : App
-verify_app = with_rule (new_app (codes "verify")) need_rule
+verify_app = with_rule (with_rule (new_app (codes "verify")) need_rule) input_rule
 
 abbrev pub play_app : App
-play_app = with_rule (with_rule (new_app (codes "play")) trace_rule) trace_json_rule
+play_app =
+    with_rule (with_rule (with_rule (new_app (codes "play")) trace_rule) trace_json_rule) input_rule
 
 abbrev pub run_app : App
-run_app = with_rule (with_rule (new_app (codes "run")) workers_rule) tree_rule
+run_app =
+    with_rule (with_rule (with_rule (new_app (codes "run")) workers_rule) tree_rule) input_rule
 
 abbrev pub serve_app : App
 serve_app =
@@ -215,8 +227,7 @@ requiring a = record a { top = record a.top { subcommand_required = true } }
 -- with the commands between text and bytes
 abbrev pub with_text_commands : App → App
 with_text_commands a =
-    with_subcommand (with_subcommand a (new_app (codes "assemble")).top)
-    (new_app (codes "disassemble")).top
+    with_subcommand (with_subcommand a assemble_app.top) disassemble_app.top
 
 abbrev pub bpfjobs_app : App
 bpfjobs_app =

@@ -90,10 +90,12 @@ pub struct Shown<'a> {
     pub tree: Option<&'a str>,
 }
 
-/// A command, and what is shown beside its answer.
+/// A command, the file that it reads, and what is shown beside its answer.
 #[derive(Debug, PartialEq, Eq, Drop)]
 pub struct CommandRequest<'a> {
     pub command: Command,
+    /// The path of the file that is read in place of the standard input, if the words name one.
+    pub input: Option<&'a str>,
     pub shown: Shown<'a>,
 }
 

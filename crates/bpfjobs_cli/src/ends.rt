@@ -17,6 +17,15 @@ use streams::{Sink, Source, StreamFault, write_all};
 // The most bytes that a read asks for.
 const PIECE_LEN: usize = 4096;
 
+/// The end of a command.
+#[derive(Drop)]
+pub struct Performed {
+    /// The status: 0 answered, 1 refused.
+    pub status: u8,
+    /// The whole input, which it read.
+    pub input: Vec<u8>,
+}
+
 /// All that the reader gives, in pieces of at most 4,096 bytes, at most `2^64 - 1` of them.
 pub fn read_all<R: Source>(alloc: Global, reader: &mut R) -> Result<Vec<u8>, StreamFault>
     requires { R.has_failed reader.old ≡ false }
@@ -83,8 +92,8 @@ fn answer_to(alloc: Global, command: Command, input: &[u8]) -> Result<Answer, No
     }
 }
 
-/// Reads the whole input, writes the answer of a command that needs no thread, and gives the
-/// status: 0 answered, 1 refused. It returns if its ends do.
+/// Reads the whole input, writes the answer of a command that needs no thread, and gives the status
+/// with that input. It returns if its ends do.
 ///
 /// 83 where the reader failed, and 99 where the input or the answer found no memory and neither end
 /// has failed: nothing is written. 84 where the writer failed, once all input was read: of the
@@ -94,13 +103,15 @@ pub fn perform_alone<R: Source, W: Sink>(
     command: Command,
     reader: &mut R,
     writer: &mut W,
-) -> Result<u8, StreamFault>
+) -> Result<Performed, StreamFault>
     requires alone { NeedsNoThread command }
     requires source { R.has_failed reader.old ≡ false }
     requires sink { W.has_failed writer.old ≡ false }
-    ensures done { IfOk result (λ status. AnswersAll command (R.transcript reader.old)
+    ensures done { IfOk result (λ done. AnswersAll command (R.transcript reader.old)
         (R.transcript reader.new) (R.is_over reader.new ≡ true) (W.transcript writer.old)
-        (W.transcript writer.new) status) }
+        (W.transcript writer.new) done.status) }
+    ensures input { IfOk result (λ done. R.transcript reader.new ≡ R.transcript reader.old
+        ++ done.input.items) }
     ensures stopped { IfErr result (λ fault. GivesUp command (R.transcript reader.old)
         (R.transcript reader.new) (R.is_over reader.new ≡ true) (W.transcript writer.old)
         (W.transcript writer.new) fault) }
@@ -113,11 +124,14 @@ pub fn perform_alone<R: Source, W: Sink>(
 {
     let input = read_all(alloc, reader)?;
     let answer = answer_to(alloc, command, &input)?;
-    tell(writer, &answer)
+    match tell(writer, &answer) {
+        Ok(status) => Ok(Performed { status, input }),
+        Err(fault) => Err(fault),
+    }
 }
 
-/// Reads the whole input, writes the answer of any command but `serve`, `journal` and `ask`, and gives the
-/// status: 0 answered, 1 refused. A `run` waits for its threads, so that of this call it isn't proved
+/// Reads the whole input, writes the answer of any command but `serve`, `journal` and `ask`, and
+/// gives the status with that input. A `run` waits for its threads, so that of this call it isn't proved
 /// that it returns; of `perform_alone`, which all others go to, it is. The faults are the same.
 pub fn perform<T: Threads + Wait + Sync, R: Source, W: Sink>(
     rt: &T,
@@ -125,13 +139,15 @@ pub fn perform<T: Threads + Wait + Sync, R: Source, W: Sink>(
     command: Command,
     reader: &mut R,
     writer: &mut W,
-) -> Result<u8, StreamFault>
+) -> Result<Performed, StreamFault>
     requires answers { AnswersInput command }
     requires source { R.has_failed reader.old ≡ false }
     requires sink { W.has_failed writer.old ≡ false }
-    ensures done { IfOk result (λ status. AnswersAll command (R.transcript reader.old)
+    ensures done { IfOk result (λ done. AnswersAll command (R.transcript reader.old)
         (R.transcript reader.new) (R.is_over reader.new ≡ true) (W.transcript writer.old)
-        (W.transcript writer.new) status) }
+        (W.transcript writer.new) done.status) }
+    ensures input { IfOk result (λ done. R.transcript reader.new ≡ R.transcript reader.old
+        ++ done.input.items) }
     ensures stopped { IfErr result (λ fault. GivesUp command (R.transcript reader.old)
         (R.transcript reader.new) (R.is_over reader.new ≡ true) (W.transcript writer.old)
         (W.transcript writer.new) fault) }
@@ -146,7 +162,10 @@ pub fn perform<T: Threads + Wait + Sync, R: Source, W: Sink>(
         Command::Run { workers } => {
             let input = read_all(alloc, reader)?;
             let answer = answer_run(rt, alloc, workers, &input)?;
-            tell(writer, &answer)
+            match tell(writer, &answer) {
+                Ok(status) => Ok(Performed { status, input }),
+                Err(fault) => Err(fault),
+            }
         }
         Command::Serve(_) => unreachable!(),
         Command::Journal { .. } => unreachable!(),

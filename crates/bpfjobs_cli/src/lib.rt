@@ -46,10 +46,12 @@ pub use hexadecimal::{Unread, read_hexadecimal};
 // jobs, as JSON
 mod declined;
 mod job;
+mod object_fault;
 mod run;
 
 pub use declined::{JobDeclined, read_job};
 pub use job::answer_play;
+pub use object_fault::{ObjectFault, ObjectPart, object_fault};
 pub use run::answer_run;
 
 // what is shown of a job: the job that the input says, as the definitions have it, its steps and its
@@ -65,4 +67,4 @@ pub use views::{steps_of, tree_in};
 // from a source to a sink
 mod ends;
 
-pub use ends::{perform, perform_alone, read_all, tell};
+pub use ends::{Performed, perform, perform_alone, read_all, tell};

@@ -3,7 +3,7 @@
 ghost use Rattle.std.specs.Prelude.{◌≡◌, false, codes, IfOk};
 ghost use Rattle.clap.specs.Words.{app_of, new_app, rule_of};
 ghost use Rattle.clap.specs.declared.builder.command.Command.TheViews.{out-Command as fields_of};
-ghost use Rattle.bpfjobs_cli.specs.Program.{need_rule, port_rule, socket_rule, grants_rule, tenant_rule, tenants_rule, tenant_jobs_rule, workers_rule, sessions_rule, clients_rule, timeout_rule, open_jobs_rule, keep_rule, keep_bytes_rule, journal_rule, journal_sync_rule, until_eof_rule, log_rule, trace_rule, trace_json_rule, tree_rule, journal_file_rule, check_rule, word_rule, subject_rule, amount_rule, wait_rule, key_rule, from_rule, named_app, requiring, verify_app, play_app, run_app, serve_app, journal_app, ask_app, bpfjobs_app, with_text_commands};
+ghost use Rattle.bpfjobs_cli.specs.Program.{need_rule, port_rule, socket_rule, grants_rule, tenant_rule, tenants_rule, tenant_jobs_rule, workers_rule, sessions_rule, clients_rule, timeout_rule, open_jobs_rule, keep_rule, keep_bytes_rule, journal_rule, journal_sync_rule, until_eof_rule, log_rule, trace_rule, trace_json_rule, tree_rule, journal_file_rule, check_rule, word_rule, subject_rule, amount_rule, wait_rule, key_rule, from_rule, input_rule, named_app, requiring, assemble_app, disassemble_app, verify_app, play_app, run_app, serve_app, journal_app, ask_app, bpfjobs_app, with_text_commands};
 
 use crate::texts;
 use clap::{Arg, ArgAction, Command};
@@ -319,6 +319,15 @@ fn from<'a>(alloc: Global) -> Arg<'a>
         .value_parser(clap::value_parser!(u64).range(1..))
 }
 
+fn input<'a>(alloc: Global) -> Arg<'a>
+    ensures rule { rule_of result ≡ input_rule }
+    ensures local { result.global ≡ false }
+{
+    Arg::new(alloc, "input")
+        .value_name("FILE")
+        .help(texts::INPUT)
+}
+
 // The program without its commands.
 fn top<'a>(alloc: Global) -> Command<'a>
     ensures app { app_of result ≡ named_app }
@@ -345,11 +354,33 @@ fn named<'a>(alloc: Global, name: &'a str, about: &'a str, more: &'a str) -> Com
     Command::new(alloc, name).about(about).after_help(more)
 }
 
+fn assemble<'a>(alloc: Global) -> Result<Command<'a>, AllocError>
+    ensures app { IfOk result (λ c. app_of c ≡ assemble_app) }
+    ensures local { IfOk result (λ c. (fields_of c).has_globals ≡ false) }
+{
+    named(alloc, "assemble", texts::ASSEMBLE, texts::ASSEMBLE_MORE).arg(input(alloc))
+}
+
+fn disassemble<'a>(alloc: Global) -> Result<Command<'a>, AllocError>
+    ensures app { IfOk result (λ c. app_of c ≡ disassemble_app) }
+    ensures local { IfOk result (λ c. (fields_of c).has_globals ≡ false) }
+{
+    named(
+        alloc,
+        "disassemble",
+        texts::DISASSEMBLE,
+        texts::DISASSEMBLE_MORE,
+    )
+    .arg(input(alloc))
+}
+
 fn verify<'a>(alloc: Global) -> Result<Command<'a>, AllocError>
     ensures app { IfOk result (λ c. app_of c ≡ verify_app) }
     ensures local { IfOk result (λ c. (fields_of c).has_globals ≡ false) }
 {
-    named(alloc, "verify", texts::VERIFY, texts::VERIFY_MORE).arg(need(alloc))
+    named(alloc, "verify", texts::VERIFY, texts::VERIFY_MORE)
+        .arg(need(alloc))?
+        .arg(input(alloc))
 }
 
 fn play<'a>(alloc: Global) -> Result<Command<'a>, AllocError>
@@ -358,7 +389,8 @@ fn play<'a>(alloc: Global) -> Result<Command<'a>, AllocError>
 {
     named(alloc, "play", texts::PLAY, texts::PLAY_MORE)
         .arg(trace(alloc))?
-        .arg(trace_json(alloc))
+        .arg(trace_json(alloc))?
+        .arg(input(alloc))
 }
 
 fn run<'a>(alloc: Global) -> Result<Command<'a>, AllocError>
@@ -367,7 +399,8 @@ fn run<'a>(alloc: Global) -> Result<Command<'a>, AllocError>
 {
     named(alloc, "run", texts::RUN, texts::RUN_MORE)
         .arg(workers(alloc))?
-        .arg(tree(alloc))
+        .arg(tree(alloc))?
+        .arg(input(alloc))
 }
 
 // `serve` without its arguments. clap's own usage would call the port and the socket optional.
@@ -444,13 +477,8 @@ fn with_texts<'a>(alloc: Global, command: Command<'a>) -> Result<Command<'a>, Al
     ensures { IfOk result (λ c. app_of c ≡ with_text_commands (app_of command.entry)) }
 {
     command
-        .subcommand(named(alloc, "assemble", texts::ASSEMBLE, texts::ASSEMBLE_MORE))?
-        .subcommand(named(
-            alloc,
-            "disassemble",
-            texts::DISASSEMBLE,
-            texts::DISASSEMBLE_MORE,
-        ))
+        .subcommand(assemble(alloc)?)?
+        .subcommand(disassemble(alloc)?)
 }
 
 /// The program with its commands, as clap reads them.

@@ -10,7 +10,7 @@ ghost use Rattle.bpfjobs_cli.specs.declared.commands.EndpointFault.TheVariants a
 ghost use Rattle.bpfjobs_cli.specs.declared.commands.Usage.TheVariants as usage_of;
 ghost use Rattle.bpfjobs_cli.specs.Tenants.{entered, is_socket_path, tenants_in, words_said};
 ghost use Rattle.bpfjobs_cli.specs.Entries.{IsWordUsage};
-ghost use Rattle.bpfjobs_cli.specs.Commands.{AreJobsOf, AreOptionsOf, AreTenantsOf, HasText, IsCommandOf, IsCommandUsage, IsEndpointOf, IsEndpointUsage, IsFlagOf, IsInRange, IsJournalOf, IsMaybeNumber, IsNumberIn, IsPlaceUsage, IsServeOf, IsShownOf, IsSyncOf, IsUsage, NameNoTenant, NameTenants, SaysCommand, SaysServe, sessions_said, tenant_words};
+ghost use Rattle.bpfjobs_cli.specs.Commands.{AreJobsOf, AreOptionsOf, AreTenantsOf, HasText, IsCommandOf, IsCommandUsage, IsEndpointOf, IsEndpointUsage, IsFlagOf, IsInRange, IsInputOf, IsJournalOf, IsMaybeNumber, IsNumberIn, IsPlaceUsage, IsServeOf, IsShownOf, IsSyncOf, IsUsage, NameNoTenant, NameTenants, SaysCommand, SaysServe, sessions_said, tenant_words};
 
 use crate::asking::ask_of;
 use crate::commands::{
@@ -383,14 +383,25 @@ fn shown_of<'a>(matches: &ArgMatches<'a>) -> Shown<'a>
     }
 }
 
-/// The command that the words ask for, and what is shown beside its answer. The first word is the
-/// program's name. The subcommand, its numbers and paths are those that clap's matches of the words
+// The path of the file that is read. `-` is the standard input.
+fn input_of<'a>(matches: &ArgMatches<'a>) -> Option<&'a str>
+    ensures { IsInputOf (rows_of (found_of matches.now)) result }
+{
+    match matches.get_str("input") {
+        Some(path) => { if path == "-" { None } else { Some(path) } }
+        None => None,
+    }
+}
+
+/// The command that the words ask for, the file that it reads, and what is shown beside its answer.
+/// The first word is the program's name. The subcommand, its numbers and paths are those that clap's matches of the words
 /// give. Words that clap takes are refused for want of memory, and where a server's options name no
 /// endpoint, or don't go with it.
 pub fn request<'a>(alloc: Global, words: &'a [String]) -> Result<CommandRequest<'a>, Usage>
     ensures ok { IfOk result (λ request. (name : Text) × (rows : List Row)
         × (subcommand_of bpfjobs_app (map string_bytes words.now) ≡ Some (name, rows))
-        × IsCommandOf name rows request.command × IsShownOf rows request.shown) }
+        × IsCommandOf name rows request.command × IsInputOf rows request.input
+        × IsShownOf rows request.shown) }
     ensures range { IfOk result (λ request. IsInRange request.command) }
     ensures err { IfErr result (λ usage. IsUsage usage (map string_bytes words.now)) }
 {
@@ -402,6 +413,7 @@ pub fn request<'a>(alloc: Global, words: &'a [String]) -> Result<CommandRequest<
         Some((name, inner)) => match command_of(alloc, name, inner) {
             Ok(command) => Ok(CommandRequest {
                 command,
+                input: input_of(inner),
                 shown: shown_of(inner),
             }),
             Err(usage) => Err(usage),

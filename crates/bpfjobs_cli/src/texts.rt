@@ -13,6 +13,8 @@ Status: 0 answered; 1 refused, with the number of the refusal printed; 2 wrong w
 
 pub(crate) const ASSEMBLE: &str = "Turns source text into bytes";
 
+pub(crate) const INPUT: &str = "The file to read; without one, or with `-`, the standard input";
+
 pub(crate) const ASSEMBLE_MORE: &str =
     "Reads source text: an instruction a line, comments from `;` on.
 Writes the program's bytes in hexadecimal, or `refused N` or `refused N at LINE`.

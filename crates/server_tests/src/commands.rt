@@ -86,7 +86,7 @@ pub fn verdicts<R: Threads + Wait + Sync>(
         let mut reader = Tap::new(reader(PROGRAM, 10, reads));
         let mut writer = Tap::new(writer(alloc, 5, writes));
         let command = Command::Verify { need: 0 };
-        let answer = perform(rt, alloc, command, &mut reader, &mut writer);
+        let answer = perform(rt, alloc, command, &mut reader, &mut writer).map(|done| done.status);
         tell(&mut numbers, answer, &writer.into_inner().bytes, VERDICT)?;
     }
     Ok(numbers)
@@ -99,7 +99,7 @@ pub fn jobs<R: Threads + Wait + Sync>(rt: &R, alloc: Global) -> Result<Vec<u64>,
         let mut reader = Tap::new(reader(JOB, 20, reads));
         let mut writer = Tap::new(writer(alloc, 50, writes));
         let command = Command::Run { workers: 1 };
-        let answer = perform(rt, alloc, command, &mut reader, &mut writer);
+        let answer = perform(rt, alloc, command, &mut reader, &mut writer).map(|done| done.status);
         tell(&mut numbers, answer, &writer.into_inner().bytes, RESULT)?;
     }
     Ok(numbers)

@@ -4,7 +4,12 @@ use Rattle.clap.specs.Words.{with_rule}
 use Rattle.bpfjobs_cli.proofs.program.verify.Goals as goal
 
 pub returns-clause-app : goal.returns-clause-app
-returns-clause-app c = IfOk-weaker c.arg.result _ _ (λ r h. h.shape c.need.ensures.local ∙ ap₂ with_rule c.named.ensures.app c.need.ensures.rule) c.arg.ensures
+returns-clause-app c =
+    let first = c.in_ok-arg.ensures.shape c.need.ensures.local ∙ ap₂ with_rule c.named.ensures.app c.need.ensures.rule in
+    IfOk-weaker c.arg-2.result _ _ (λ r h. h.shape c.input.ensures.local ∙ ap₂ with_rule first c.input.ensures.rule) c.arg-2.ensures
 
 pub returns-clause-local : goal.returns-clause-local
-returns-clause-local c = IfOk-weaker c.arg.result _ _ (λ r h. h.globals ∙ ap₂ (λ (a b : Bool). a || b) c.named.ensures.local c.need.ensures.local) c.arg.ensures
+returns-clause-local c =
+    let either : Bool → Bool → Bool = λ a b. a || b in
+    let first = c.in_ok-arg.ensures.globals ∙ ap₂ either c.named.ensures.local c.need.ensures.local in
+    IfOk-weaker c.arg-2.result _ _ (λ r h. h.globals ∙ ap₂ either first c.input.ensures.local) c.arg-2.ensures

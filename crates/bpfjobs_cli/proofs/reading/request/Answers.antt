@@ -30,6 +30,7 @@ returns-in-Ok-command_of-clause-ok c =
       rows_of (found_of c.in-Some.inner.now),
       ap (λ a. subcommand_of a (map string_bytes c.args.words.now)) (sym c.in_ok-bpfjobs.ensures) ∙ sym entered ∙ found,
       c.in-Ok-command_of.ensures.ok,
+      c.input_of.ensures,
       c.shown_of.ensures,
     )
 
