@@ -4,11 +4,12 @@ It wants what `test_web` wants."""
 
 import base64
 import hashlib
+import json
 import re
 import sys
 import unittest
 
-from test_web import BROWSER, PAGE, TOP, InBrowser
+from test_web import PAGE, TOP, InBrowser
 
 sys.path.insert(0, str(TOP / "web"))
 import assemble_page  # noqa: E402  (the script stands in the folder that was just added)
@@ -72,6 +73,80 @@ class Policy(InBrowser):
         self.tab.evaluate("new Promise((done) => requestAnimationFrame(() => requestAnimationFrame(done)))")
         self.assertEqual(self.tab.evaluate("held_back"), [])
         self.assertFalse(self.is_hidden("job_answer"))
+
+
+class Opening(InBrowser):
+    """The page as whoever has never seen it meets it."""
+
+    def test_three_sentences_say_it(self):
+        said = self.text("intro")
+        self.assertEqual(len(re.findall(r"\.(?:\s|$)", said)), 3, said)
+        self.assertLess(*self.tab.evaluate("['intro', 'views'].map((id) => document.getElementById(id).getBoundingClientRect().top)"))
+
+    def test_the_first_example_is_refused(self):
+        self.assertEqual(self.tab.evaluate("document.getElementById('examples').selectedOptions[0].text"), "refused: a byte too far")
+        self.assertEqual(self.text("verdict"), "refused 33: access out of the part at slot 2")
+        self.assertEqual(self.marked_lines(), [5])
+        self.assertFalse(self.is_hidden("mend"))
+        self.assertEqual(self.text("mend_told"), "To have it accepted, change the need from 15 to 16.")
+
+    def test_the_change_is_what_it_takes(self):
+        """It is accepted with the need that is told, by hand and by the button, and then it runs."""
+        self.fill(need="16")
+        self.tab.wait_for("document.getElementById('verdict').textContent === 'accepted, cost 4'")
+        self.assertTrue(self.is_hidden("mend"))
+        self.tab.load(self.address)
+        self.click("mend_it")
+        self.assertEqual((self.text("verdict"), self.tab.evaluate("document.getElementById('need').value")), ("accepted, cost 4", "16"))
+        self.assertTrue(self.is_hidden("mend"))
+        self.click("run")
+        self.assertEqual(self.facts()["R0"], "51 (0x33)")
+
+    def test_each_refusal_has_a_change(self):
+        for source, need, status, told in (
+                ("mov64 r0, 1\nmul65 r0, 2\nexit", "0", 11, "Take another word"), ("mov64 r0\nexit", "0", 12, "Write the operands"),
+                ("mov64 r11, 0\nexit", "0", 13, "Take a register"), ("; nothing", "0", 1, "Write an instruction"),
+                ("ja +9\nexit", "0", 21, "Have the jump lead"), ("mov64 r0, 1", "0", 24, "End each path"),
+                ("mov64 r0, 0\nja -1", "0", 23, "Take out the jump"), ("mov64 r0, 1\nexit\nexit", "0", 25, "Take out the instruction"),
+                ("exit", "0", 31, "Set the register"), ("ldxb r0, [r10+0]\nexit", "0", 32, "Keep the access within the 512"),
+                ("mov64 r0, 1\nldxb r0, [r0+0]\nexit", "0", 34, "Read and write"),
+                ("mov64 r10, 1\nmov64 r0, 1\nexit", "0", 36, "Write another register"), ("call 9\nexit", "0", 37, "Call a helper"),
+                ("add64 r1, r2\nldxb r0, [r1+0]\nexit", "4", 33, "Keep the access within the need"),
+                ("mov64 r0, 0\nexit", "65537", 38, "To have it accepted, change the need from 65537 to 65536.")):
+            with self.subTest(status):
+                self.tab.evaluate(f"show({json.dumps(source)}, {{ need: '{need}' }}); do_verify()")
+                self.assertTrue(self.text("verdict").startswith(f"refused {status}"), self.text("verdict"))
+                self.assertTrue(self.text("mend_told").startswith(told), self.text("mend_told"))
+                self.assertFalse(self.is_hidden("mend"))
+                self.assertEqual(self.is_hidden("mend_it"), not told.startswith("To have it accepted"))
+
+    def test_a_run_that_is_refused_has_one_too(self):
+        self.choose("Internet checksum")
+        self.fill(credit="17")
+        self.click("run")
+        self.assertEqual(self.text("mend_told"), "Give it a credit of at least 18.")
+        self.fill(credit="18", memory="00*9")
+        self.click("run")
+        self.assertEqual(self.text("mend_told"), "Give it a memory of at least 10 bytes.")
+
+    def test_its_words_are_explained(self):
+        words = """[...document.querySelectorAll("#VIEW_view dfn")].filter((one) => one.checkVisibility())
+            .map((one) => one.textContent.toLowerCase())"""
+        self.assertLessEqual({"need", "credit", "part", "slot"}, set(self.tab.evaluate(words.replace("VIEW", "program"))))
+        self.click("tab_job")
+        self.assertLessEqual({"need", "credit", "part", "slot", "place"}, set(self.tab.evaluate(words.replace("VIEW", "job"))))
+        # (a reader of a screen is told them with their fields)
+        told = "[...document.querySelectorAll('#need, #credit, #memory, #job_credit, #job_buffer')].map((one) => " \
+               "document.getElementById(one.getAttribute('aria-describedby')).textContent)"
+        self.assertTrue(all(self.tab.evaluate(told)))
+
+    def test_its_links_lead_to_pages_of_the_docs(self):
+        links = self.tab.evaluate("[...document.querySelectorAll('a')].map((one) => [one.getAttribute('href'), one.textContent])")
+        self.assertEqual([page for page, _ in links], ["theorem.md", "profile.md", "refusals.md", "glossary.md"])
+        for page, name in links:
+            with self.subTest(page):
+                self.assertTrue((TOP / "docs" / page).is_file())
+                self.assertTrue(name.strip())
 
 
 if __name__ == "__main__":

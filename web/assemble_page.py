@@ -62,8 +62,10 @@ def page(module: str) -> str:
     parts = {
         "/*STYLE*/": text("page.css"),
         "/*LIBRARY*/": text("telgovan.js"),
+        "/*EDITOR*/": text("editor.js"),
         "/*FLOW*/": text("flow.js"),
         "/*GRAPH*/": text("graph.js"),
+        "/*MENDS*/": text("mends.js"),
         "/*STEPS*/": text("steps.js"),
         "/*JOB*/": text("job.js"),
         "/*JOB_TREE*/": text("job_tree.js"),
