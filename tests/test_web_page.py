@@ -10,6 +10,7 @@ import sys
 import unittest
 
 from test_web import PAGE, TOP, InBrowser
+from test_web_jobs import InJob
 
 sys.path.insert(0, str(TOP / "web"))
 import assemble_page  # noqa: E402  (the script stands in the folder that was just added)
@@ -136,7 +137,7 @@ class Opening(InBrowser):
         self.click("tab_job")
         self.assertLessEqual({"need", "credit", "part", "slot", "place"}, set(self.tab.evaluate(words.replace("VIEW", "job"))))
         # (a reader of a screen is told them with their fields)
-        told = "[...document.querySelectorAll('#need, #credit, #memory, #job_credit, #job_buffer')].map((one) => " \
+        told = "[...document.querySelectorAll('#need, #credit, #memory, .job_need, #job_credit, #job_buffer')].map((one) => " \
                "document.getElementById(one.getAttribute('aria-describedby')).textContent)"
         self.assertTrue(all(self.tab.evaluate(told)))
 
@@ -147,6 +148,88 @@ class Opening(InBrowser):
             with self.subTest(page):
                 self.assertTrue((TOP / "docs" / page).is_file())
                 self.assertTrue(name.strip())
+
+
+# Elements that can be seen: what there is to press with its box, and what says something with the size of its letters.
+PRESSED = """[...document.querySelectorAll("button, select, input, textarea, summary, a[href], [role=treeitem], .go")]
+    .filter((one) => one.checkVisibility()).map((one) => [one.id || one.className || one.textContent, one.getBoundingClientRect()])
+    .filter(([, box]) => box.width < 44 || box.height < 44).map(([name, box]) => `${name}: ${box.width} by ${box.height}`)"""
+LETTERS = """[...document.querySelectorAll("body *")].filter((one) => !one.closest("script, style") && one.checkVisibility() &&
+        (one.matches("input, textarea, select") || [...one.childNodes].some((node) => node.nodeType === 3 && node.textContent.trim())))
+    .map((one) => [one.id || one.className.baseVal || one.className || one.tagName,
+        parseFloat(getComputedStyle(one).fontSize) * (one.ownerSVGElement ? one.getScreenCTM().a : 1)])
+    .filter(([, size]) => size < 16).map(([name, size]) => `${name}: ${size}`)"""
+PHONES = ((390, 844), (360, 740))
+# Cells of the last column that stand out of what can be seen of their table.
+CUT = """(() => {
+    const room = document.querySelector("#job_answer .wide").getBoundingClientRect();
+    const cells = [...document.querySelectorAll("#job_answers tbody td:last-child")];
+    const reach = (cell) => {
+        const letters = document.createRange();
+        letters.selectNodeContents(cell);
+        return Math.max(letters.getBoundingClientRect().right, cell.getBoundingClientRect().right);
+    };
+    return [cells.length, cells.filter((one) => !one.checkVisibility() || reach(one) > Math.min(room.right, innerWidth) + 0.5).length];
+})()"""
+
+
+class Widths(InJob):
+    def states(self):
+        """The page in each of its states, by name."""
+        self.click("tab_program")
+        self.choose("refused: a byte too far")
+        yield "refused"
+        self.choose("Internet checksum")
+        self.click("run")
+        self.click("step_forth")
+        yield "run"
+        self.click("tab_job")
+        self.choose_job("a sum by eight tasks")
+        for _ in range(20):
+            self.click("job_forth")
+        yield "under way"
+        self.click("job_all")
+        yield "over"
+
+    def test_a_phone(self):
+        for size in PHONES:
+            self.tab.size(*size)
+            for name in self.states():
+                with self.subTest(size=size, state=name):
+                    self.assertEqual(self.tab.evaluate(PRESSED), [])
+                    self.assertEqual(self.tab.evaluate(LETTERS), [])
+                    self.assertLessEqual(self.tab.evaluate("document.documentElement.scrollWidth - innerWidth"), 0)
+                    self.picture(f"phone_{size[0]}_{name.replace(' ', '_')}")
+
+    def test_the_last_column_of_the_answers(self):
+        for job in ("a spawn", "a sum by eight tasks", "spawns that are refused"):
+            for width in (1280, 390, 768, 840, 360):
+                self.tab.size(width, 900)
+                self.choose_job(job)
+                self.click("job_all")
+                with self.subTest(job=job, width=width):
+                    self.assertEqual(self.tab.evaluate(CUT), [5, 0])
+                    self.assertLessEqual(self.tab.evaluate("document.documentElement.scrollWidth - innerWidth"), 0)
+
+    def test_long_answers(self):
+        """The largest R0 and a long buffer."""
+        self.type_job([(0, "mov64 r0, -1\nexit\n")], 2**31 - 1, "ff*64")
+        for width in (1280, 840, 390):
+            self.tab.size(width, 900)
+            self.click("job_start")
+            self.click("job_all")
+            with self.subTest(width):
+                self.assertEqual(self.tab.evaluate(CUT), [5, 0])
+                self.assertLessEqual(self.tab.evaluate("document.documentElement.scrollWidth - innerWidth"), 0)
+
+    def test_the_colours_of_the_system(self):
+        light = "(getComputedStyle(document.NAME).backgroundColor.match(/[0-9.]+/g).slice(0, 3).map(Number).reduce((a, b) => a + b) / 765)"
+        for scheme, least, most in (("light", 0.9, 1), ("dark", 0, 0.2)):
+            self.tab.colours(scheme)
+            for name in ("documentElement", "getElementById('source').parentElement", "getElementById('job_credit')"):
+                with self.subTest(scheme=scheme, of=name):
+                    shown = self.tab.evaluate(light.replace("NAME", name))
+                    self.assertTrue(least <= shown <= most, shown)
 
 
 if __name__ == "__main__":
