@@ -6,8 +6,11 @@ import base64
 import hashlib
 import json
 import re
+import shutil
 import sys
+import tempfile
 import unittest
+from pathlib import Path
 
 from test_web import PAGE, TOP, InBrowser
 from test_web_jobs import InJob
@@ -27,7 +30,8 @@ class Assembled(unittest.TestCase):
     def test_it_is_what_its_sources_make(self):
         """The committed page has these sources, over the module that it has."""
         page = TOP / "docs/try.html"
-        self.assertEqual(page.read_text(encoding="utf-8"), assemble_page.page(assemble_page.packed(page)))
+        is_same = page.read_text(encoding="utf-8") == assemble_page.page(assemble_page.packed(page))
+        self.assertTrue(is_same, "python3 web/assemble_page.py docs/try.html docs/try.html makes it anew")
 
     def test_the_policy_names_each_script_and_style(self):
         text = PAGE.read_text(encoding="utf-8")
@@ -148,6 +152,15 @@ class Opening(InBrowser):
             with self.subTest(page):
                 self.assertTrue((TOP / "docs" / page).is_file())
                 self.assertTrue(name.strip())
+
+    def test_its_links_where_a_package_has_put_it(self):
+        with tempfile.TemporaryDirectory() as room:
+            page = Path(room) / "share/telgovan/telgovan.html"
+            page.parent.mkdir(parents=True)
+            shutil.copyfile(PAGE, page)
+            self.tab.load(page.as_uri())
+            links = self.tab.evaluate("[...document.querySelectorAll('a')].map((one) => one.href)")
+            self.assertEqual(links[-1], (Path(room) / "share/doc/telgovan/docs/glossary.md").as_uri())
 
 
 # Elements that can be seen: what there is to press with its box, and what says something with the size of its letters.
