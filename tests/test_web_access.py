@@ -206,7 +206,7 @@ class Looks(InJob):
     def test_live_regions(self):
         """What changes by itself is told: the verdict, each step, and the answer."""
         regions = "[...document.querySelectorAll('#job_view [role=status]')].map((one) => one.id)"
-        self.assertEqual(self.tab.evaluate(regions), ["job_shared", "job_verdict", "job_told", "job_same"])
+        self.assertEqual(self.tab.evaluate(regions), ["job_shared", "job_verdict", "job_mend", "job_told", "job_same"])
         script = """(async () => {
             const told = [];
             const watcher = new MutationObserver((changes) => told.push(...changes.map((one) => one.target.textContent)));

@@ -531,6 +531,23 @@ class Verdicts(InJob):
                 self.assertTrue(self.verdict().startswith(told), self.verdict())
                 self.assertTrue(self.is_hidden("job_run"))
 
+    def test_what_to_change(self):
+        answer = "mov64 r0, 0\nexit\n"
+        for programs, credit, buffer, told in (
+                ([(0, answer)], 1, "", "Give the job a credit of at least 2."),
+                ([(1, answer)], 2, "", "Give the job a buffer of at least 1 byte."),
+                ([(0, answer)], 2**31, "", "Take a credit of at most 2,147,483,647, and a buffer of at most 65,536 bytes."),
+                ([(0, answer), (0, "mov65 r0, 0\n")], 2, "", "Take another word in this line."),
+                ([(0, answer), (0, "mov64 r0, 0\n")], 2, "", "End each path with exit."),
+                ([(0, answer), (3, "ldxb r0, [r1+4]\nexit\n")], 2, "", "To have it accepted, change the need of program 1 from 3 to 5."),
+                ([(0, answer), (65537, answer)], 2, "", "To have it accepted, change the need of program 1 from 65537 to 65536.")):
+            with self.subTest(told):
+                self.type_job(programs, credit, buffer)
+                self.assertTrue(self.text("job_mend").startswith(told), self.text("job_mend"))
+                self.assertFalse(self.is_hidden("job_mend"))
+        self.type_job([(0, answer)], 2, "")
+        self.assertTrue(self.is_hidden("job_mend"))
+
     def test_what_is_typed_is_admitted(self):
         self.fill(job_credit="23")
         self.tab.wait_for("document.getElementById('job_verdict').textContent.startsWith('refused 63')")

@@ -85,11 +85,11 @@ function show_job({ programs, ...fields }) {
 
 // ---- verdicts
 
-// A refusal in words, of a program at a line of its source, where that is known.
-class ProgramRefused extends Error {
-    constructor(told, program, line) {
+// A refusal in words, with what to change; of a program also the line of its source. Each where it is known.
+class Refused extends Error {
+    constructor(told, change = "", program = null, line = null) {
         super(told);
-        Object.assign(this, { program, line });
+        Object.assign(this, { change, program, line });
     }
 }
 
@@ -99,7 +99,8 @@ function assembled(programs) {
         const code = library.assemble(source);
         if (code.status) {
             const line = code.place === null ? "" : ` in line ${code.place}`;
-            throw new ProgramRefused(`program ${place}: refused ${code.status}${line}: ${WORDS[code.status] ?? ""}`, place, code.place);
+            const told = `program ${place}: refused ${code.status}${line}: ${WORDS[code.status] ?? ""}`;
+            throw new Refused(told, MENDS[code.status], place, code.place);
         }
         const bytes = need.trim();
         if (!/^[0-9]{1,10}$/.test(bytes) || Number(bytes) >= 2 ** 32) {
@@ -110,11 +111,22 @@ function assembled(programs) {
     });
 }
 
+function job_change(status, { need, code }) {
+    return {
+        63: `Give the job a credit of at least ${library.verify(need, code).cost}.`,
+        64: `Give the job a buffer of at least ${counted(need, "byte")}.`,
+        65: "Take a credit of at most 2,147,483,647, and a buffer of at most 65,536 bytes.",
+    }[status];
+}
+
 function refusal({ status, program, slot }, programs) {
-    if (program === null) return new Error(`refused ${status}: ${JOB_WORDS[status] ?? ""}`);
+    if (program === null) return new Refused(`refused ${status}: ${JOB_WORDS[status] ?? ""}`, job_change(status, programs[0]));
     const { need, code, source, lines } = programs[program];
-    const said = slot === null && status === 38 ? "" : library.explain(need, code, source).text.split("\n")[0];
-    return new ProgramRefused(`program ${program}: ${said || `refused ${status}`}`, program, lines.get(slot) ?? null);
+    const explanation = slot === null && status === 38 ? "" : library.explain(need, code, source).text;
+    const other = need_of(status, explanation, code);
+    const change = other === null ? MENDS[status] : `To have it accepted, change the need of program ${program} from ${need} to ${other}.`;
+    const told = `program ${program}: ${explanation.split("\n")[0] || `refused ${status}`}`;
+    return new Refused(told, change, program, lines.get(slot) ?? null);
 }
 
 // Admits what is typed, and shows the job at its start.
@@ -132,7 +144,9 @@ function admit_job() {
     show_run();
 }
 
-function tell_job(verdict, kind) {
+function tell_job(verdict, kind, change = "") {
+    at("job_mend").hidden = !change;
+    at("job_mend").textContent = change;
     at("job_verdict").textContent = verdict;
     at("job_verdict").className = `verdict ${kind}`;
 }
@@ -150,7 +164,7 @@ function job_guarded(work) {
             work(...given);
         } catch (wrong) {
             forget_job();
-            tell_job(wrong.message, "bad");
+            tell_job(wrong.message, "bad", wrong.change);
             if (wrong.line) program_boxes()[wrong.program].editor.number(wrong.line);
         }
         keep_job();

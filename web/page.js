@@ -262,7 +262,7 @@ function judge() {
 function refused_run(status) {
     tell(`refused ${status}: ${WORDS[status] ?? ""}`, "bad", [["cost", program.verdict.cost]]);
     const { need, verdict: { cost } } = program;
-    tell_change({ 42: `Give it a credit of at least ${cost}.`, 43: `Give it a memory of at least ${need} bytes.` }[status]);
+    tell_change({ 42: `Give it a credit of at least ${cost}.`, 43: `Give it a memory of at least ${counted(need, "byte")}.` }[status]);
 }
 
 function number_text(word) {
