@@ -15,6 +15,9 @@ class Editor {
         this.lines = room.querySelector(".lines");
         this.field = room.querySelector("textarea");
         this.marked = null;
+        // (Firefox has the Tab key stop at a room that scrolls, if nothing says otherwise)
+        Object.assign(room, { tabIndex: -1, role: "group", ariaLabel: `Lines of: ${this.field.ariaLabel}` });
+        room.onfocus = () => this.field.focus();
     }
 
     // Numbers the lines anew, as after a change of the text, and marks one as bad.
