@@ -1,7 +1,8 @@
 """The page, in a browser: what it tells, its address, and what it says of random programs beside the library.
 
 It wants a Chromium or a Firefox (TELGOVAN_BROWSER). The page is docs/try.html, or the one that TELGOVAN_PAGE
-names. TELGOVAN_PICTURES names a folder for a picture of each state. `test_web_jobs` has the view of a job."""
+names. TELGOVAN_PICTURES names a folder for a picture of each state. `test_web_page` has how it opens, and
+`test_web_jobs` the view of a job."""
 
 import ctypes
 import json

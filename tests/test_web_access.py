@@ -159,6 +159,12 @@ class Looks(InJob):
                   "task_0", "job_part"]
         self.assertEqual(reached[: len(wanted)], wanted)
 
+    def test_a_click_beside_a_text_leads_into_it(self):
+        for room, field in (("#editor", "source"), ("#job_programs .source", "Program 0, the root's as eBPF assembly")):
+            self.click("tab_program" if room == "#editor" else "tab_job")
+            self.tab.evaluate(f"document.querySelector('{room}').focus()")
+            self.assertEqual(self.tab.evaluate("document.activeElement.id || document.activeElement.ariaLabel"), field)
+
     def test_the_focus_is_seen(self):
         for name in ("tab_job", "job_examples", "job_share", "job_credit", "job_start", "job_stepper", "job_forth", "job_order", "job_all",
                      "task_0", "job_part"):
@@ -206,7 +212,7 @@ class Looks(InJob):
     def test_live_regions(self):
         """What changes by itself is told: the verdict, each step, and the answer."""
         regions = "[...document.querySelectorAll('#job_view [role=status]')].map((one) => one.id)"
-        self.assertEqual(self.tab.evaluate(regions), ["job_shared", "job_verdict", "job_told", "job_same"])
+        self.assertEqual(self.tab.evaluate(regions), ["job_shared", "job_verdict", "job_mend", "job_told", "job_same"])
         script = """(async () => {
             const told = [];
             const watcher = new MutationObserver((changes) => told.push(...changes.map((one) => one.target.textContent)));

@@ -5,6 +5,7 @@ It wants what `test_web` wants."""
 import json
 import os
 import random
+import re
 import unittest
 
 from jobs import Job, Program
@@ -366,6 +367,142 @@ class Answers(InJob):
         self.assertEqual(self.text("job_same"), "Not every schedule here came to this answer.")
 
 
+class Marks(InJob):
+    """Which row is marked, and what stands beside it: the panel of its task, and its line in the sources."""
+
+    MARKED = """[...document.querySelectorAll("#job_tree [role=treeitem]")].filter((one) =>
+        getComputedStyle(one).backgroundColor !== "rgba(0, 0, 0, 0)").map((one) => Number(one.dataset.number))"""
+    # the lines that are marked, by program, and the line behind which a band is drawn
+    LINES = """[...document.querySelectorAll("#job_programs fieldset")].map((box) => [
+        [...box.querySelectorAll(".lines .NAME")].map((one) => Number(one.textContent)),
+        (parseFloat(getComputedStyle(box.querySelector("textarea")).getPropertyValue("--NAME-at")) - 8) / 20 + 1 || null])"""
+
+    def shown(self):
+        """The rows that are marked, the task of the panel, and those that say that they made the last step."""
+        last = """[...document.querySelectorAll("#job_tree .last")].filter((one) => one.checkVisibility())
+            .map((one) => Number(one.closest("li").dataset.number))"""
+        return self.tab.evaluate(self.MARKED), self.text("job_task_name"), self.tab.evaluate(last)
+
+    def lines(self, name="now"):
+        return self.tab.evaluate(self.LINES.replace("NAME", name))
+
+    def line_of(self, source, slot):
+        """The line of an instruction of one slot each."""
+        lines = [number for number, text in enumerate(source.split("\n"), 1) if text.split(";")[0].strip()]
+        return lines[slot]
+
+    def test_the_panel_is_of_the_marked_row(self):
+        self.choose_job("a sum by eight tasks")
+        self.assertEqual(self.shown(), ([0], "Task 0", []))
+        for _ in range(40):
+            self.click("job_forth")
+            number = self.tab.evaluate("job_run.step.task")
+            self.assertEqual(self.shown(), ([number], f"Task {number}", [number]))
+        self.tab.evaluate("document.getElementById('task_1').click()")
+        number = self.tab.evaluate("job_run.step.task")
+        self.assertEqual(self.shown(), ([1], "Task 1", [number]))
+        self.click("job_all")
+        number = self.tab.evaluate("job_run.step.task")
+        self.assertNotEqual(number, 0)
+        self.assertEqual(self.shown(), ([number], f"Task {number}", [number]))
+        self.tab.evaluate(f"document.getElementById('task_{number}').focus()")
+        self.tab.press("Home", 0, 36)
+        self.assertEqual(self.shown(), ([0], "Task 0", [number]))
+        self.click("job_first")
+        self.assertEqual(self.shown(), ([0], "Task 0", []))
+
+    def test_the_marked_row_can_be_seen(self):
+        self.choose_job("a sum by eight tasks")
+        self.click("job_all")
+        seen = """(() => { const room = document.getElementById("job_tree").getBoundingClientRect();
+            const row = document.querySelector("#job_tree [aria-selected=true]").getBoundingClientRect();
+            return row.top >= room.top - 1 && row.bottom <= room.bottom + 1; })()"""
+        for number in range(8):
+            self.tab.evaluate(f"choose_task({number})")
+            self.assertTrue(self.tab.evaluate(seen), number)
+
+    def test_what_an_ended_task_returned_is_green(self):
+        """Its bar has the colours that the job's sums have: spent, and returned in place of held."""
+        self.choose_job("a sum by eight tasks")
+        colours = """(() => { const colour = (one) => getComputedStyle(document.querySelector(one)).backgroundColor;
+            const bar = getComputedStyle(document.querySelector("#task_NUMBER .credit"));
+            const kept = document.querySelector("#task_NUMBER .credit").style.getPropertyValue("--kept");
+            return [bar.backgroundImage.match(/rgb[^)]*\\)/g)[0], ...["held", "returned", "spent"].map((name) => colour(`#job_bar .${name}`)),
+                colour("#task_NUMBER .credit i"), colour("#task_NUMBER .range i"), parseFloat(kept)]; })()"""
+        for scheme in ("light", "dark"):
+            self.tab.colours(scheme)
+            self.click("job_start")
+            bar, held, _, spent, used, _, _ = self.tab.evaluate(colours.replace("NUMBER", "0"))
+            self.assertEqual((bar, used), (held, spent))
+            self.click("job_all")
+            for number, task in enumerate(self.shown_job().play(self.tab.evaluate("job_run.schedule")).tasks):
+                bar, held, returned, spent, used, part, kept = self.tab.evaluate(colours.replace("NUMBER", str(number)))
+                self.assertEqual((bar, used), (returned, spent))
+                self.assertNotIn(part, (held, returned, spent))
+                self.assertAlmostEqual(kept, 100 * task.held / task.given, delta=0.1)
+            green, blue = (list(map(int, re.findall(r"\d+", colour))) for colour in (returned, held))
+            self.assertEqual((green.index(max(green)), blue.index(max(blue))), (1, 2))
+
+    def test_the_sources_have_numbered_lines(self):
+        for name in ("a spawn", "spawns that are refused"):
+            self.choose_job(name)
+            sources = self.tab.evaluate("[...document.querySelectorAll('.job_source')].map((one) => one.value)")
+            numbers = """[...document.querySelectorAll("#job_programs .lines")].map((one) =>
+                [...one.children].map((line) => Number(line.textContent)))"""
+            self.assertEqual(self.tab.evaluate(numbers), [[*range(1, source.count("\n") + 1)] for source in sources])
+            # (each number stands beside its line)
+            tops = """[...document.querySelectorAll("#job_programs fieldset")].flatMap((box) => {
+                const field = box.querySelector("textarea");
+                const top = field.getBoundingClientRect().top + parseFloat(getComputedStyle(field).paddingTop);
+                return [...box.querySelectorAll(".lines span")]
+                    .map((one, place) => Math.abs(one.getBoundingClientRect().top - top - 20 * place));
+            })"""
+            self.assertLess(max(self.tab.evaluate(tops)), 2)
+
+    def test_numbers_follow_what_is_typed(self):
+        typed = """(() => { const field = document.querySelectorAll(".job_source")[1];
+            field.value = "mov64 r0, 0\\n\\n\\nexit\\n"; field.dispatchEvent(new Event("input"));
+            return document.querySelectorAll("#job_programs .lines")[1].children.length; })()"""
+        self.assertEqual(self.tab.evaluate(typed), 4)
+
+    def test_the_current_line(self):
+        """It is where the task of the marked row stands; no other is marked."""
+        for name in ("a spawn", "spawns that are refused"):
+            self.choose_job(name)
+            sources = self.tab.evaluate("[...document.querySelectorAll('.job_source')].map((one) => one.value)")
+            is_over = False
+            while not is_over:
+                is_over, program, slot, number = self.tab.evaluate("""(() => { const task = job_run.tasks[chosen];
+                    const { slot } = task.r0 === null ? job_run.next_of(task) : task.last;
+                    return [job_run.is_complete, task.program, slot, chosen]; })()""")
+                line = self.line_of(sources[program], slot)
+                self.assertEqual(self.lines(), [[[line], line] if place == program else [[], None] for place in range(len(sources))])
+                told = self.tab.evaluate("[...document.querySelectorAll('.line_told')].map((one) => one.textContent)")
+                self.assertIn(told[program], (f"Task {number} is at line {line}.", f"Task {number} ended at line {line}."))
+                self.assertEqual([one for one in told if one], [told[program]])
+                self.click("job_forth")
+        self.tab.evaluate("choose_task(1)")
+        self.assertEqual(self.lines(), [[[], None], [[4], 4]])
+
+    def test_the_current_line_can_be_seen(self):
+        self.choose_job("spawns that are refused")
+        seen = """(() => { const line = document.querySelector("#job_programs .now").getBoundingClientRect();
+            const room = document.querySelector("#job_programs .now").closest(".source").getBoundingClientRect();
+            return line.top >= room.top && line.bottom <= room.bottom; })()"""
+        while not self.tab.evaluate("job_run.is_complete"):
+            self.click("job_forth")
+            self.assertTrue(self.tab.evaluate(seen))
+
+    def test_a_refused_line(self):
+        answer = "mov64 r0, 0\nexit\n"
+        for source, line in (("; one\nmov65 r0, 0\n", 2), ("; one\n\nldxb r0, [r1+9]\nexit\n", 3)):
+            self.type_job([(0, answer), (0, source)], 9, "")
+            self.assertTrue(self.verdict().startswith("program 1: refused "), self.verdict())
+            self.assertEqual(self.lines("bad"), [[[], None], [[line], line]])
+        self.type_job([(0, answer), (0, answer)], 9, "")
+        self.assertEqual(self.lines("bad"), [[[], None], [[], None]])
+
+
 class Verdicts(InJob):
     def test_each_example_has_its_verdict(self):
         names = self.tab.evaluate("JOB_EXAMPLES.map((one) => one.name)")
@@ -393,6 +530,23 @@ class Verdicts(InJob):
                 self.type_job(programs, credit, buffer)
                 self.assertTrue(self.verdict().startswith(told), self.verdict())
                 self.assertTrue(self.is_hidden("job_run"))
+
+    def test_what_to_change(self):
+        answer = "mov64 r0, 0\nexit\n"
+        for programs, credit, buffer, told in (
+                ([(0, answer)], 1, "", "Give the job a credit of at least 2."),
+                ([(1, answer)], 2, "", "Give the job a buffer of at least 1 byte."),
+                ([(0, answer)], 2**31, "", "Take a credit of at most 2,147,483,647, and a buffer of at most 65,536 bytes."),
+                ([(0, answer), (0, "mov65 r0, 0\n")], 2, "", "Take another word in this line."),
+                ([(0, answer), (0, "mov64 r0, 0\n")], 2, "", "End each path with exit."),
+                ([(0, answer), (3, "ldxb r0, [r1+4]\nexit\n")], 2, "", "To have it accepted, change the need of program 1 from 3 to 5."),
+                ([(0, answer), (65537, answer)], 2, "", "To have it accepted, change the need of program 1 from 65537 to 65536.")):
+            with self.subTest(told):
+                self.type_job(programs, credit, buffer)
+                self.assertTrue(self.text("job_mend").startswith(told), self.text("job_mend"))
+                self.assertFalse(self.is_hidden("job_mend"))
+        self.type_job([(0, answer)], 2, "")
+        self.assertTrue(self.is_hidden("job_mend"))
 
     def test_what_is_typed_is_admitted(self):
         self.fill(job_credit="23")

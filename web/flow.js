@@ -1,7 +1,6 @@
 // The instructions of a program and the jumps between them, as a list with arcs beside it.
 "use strict";
 
-const ROW = 20;
 const LANE = 10;
 const MOST_LANES = 12;
 
@@ -112,6 +111,12 @@ function mark_flow(flow, way, bad) {
         if (pairs.has(`${arc.from} ${arc.to}`)) arc.drawn.classList.add("way");
     }
     if (bad !== null) flow.rows[flow.row_of.get(bad)]?.classList.add("bad");
+}
+
+// The lines of a source by the slots of its instructions.
+function lines_by_slot(listing, source) {
+    const lines = instruction_lines(source);
+    return new Map(instructions_of(listing).map((one, row) => [one.slot, lines[row]]));
 }
 
 function line_of_slot(flow, slot) {

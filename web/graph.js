@@ -2,13 +2,12 @@
 // with its boxes in layers. A program has no loops, so each edge leads to a lower layer.
 "use strict";
 
-const GLYPH = 7.3; // the width of a letter
-const LINE = 16;
+let [LETTER, GLYPH, LINE] = [12, 7.3, 16]; // the height and the width of a letter, and the height of a line
 const MARGIN = 8; // within a box
 const [BESIDE, BELOW] = [26, 44]; // room between boxes
 const SWEEPS = 9; // down and up in turn, down at last
 const MOST_BOXES = 400;
-const LEAST_SCALE = 0.8; // to which a wide graph shrinks
+const LEAST_SCALE = 0.8; // to which a wide graph shrinks, but on a phone
 const [MOST_FIRST, MOST_LAST, AROUND_BAD] = [12, 6, 2]; // rows of a long box
 const END = '<br align="left"/>';
 const BOX = /^ {2}s(\d+) \[label=<<font color="gray40">(.*?)<\/font>(.*)>(, color=red)?\];$/;
@@ -178,7 +177,7 @@ function drawn_box({ box, shown, x, y, width, height }) {
     title.textContent = box.known.join("\n") || "no register is set";
     group.append(title);
     const write = (text, row, name) => {
-        const at = { x: x + MARGIN, y: y + MARGIN + LINE * row + 11, class: name };
+        const at = { x: x + MARGIN, y: y + MARGIN + LINE * row + LETTER - 1, class: name };
         const made = svg_element("text", at);
         made.textContent = text;
         group.append(made);
@@ -228,7 +227,7 @@ function drawn_edge(edge, edges) {
     if (edge.word) {
         const beside = edges.filter((one) => one.from === edge.from).map((one) => leave_at(one, edges));
         const is_left = start[0] === Math.min(...beside);
-        const place = { x: start[0] + (is_left ? -6 : 6), y: start[1] + 12, "text-anchor": is_left ? "end" : "start" };
+        const place = { x: start[0] + (is_left ? -6 : 6), y: start[1] + LETTER, "text-anchor": is_left ? "end" : "start" };
         const label = svg_element("text", { ...place, class: name });
         label.textContent = edge.word;
         drawn.push(label);
@@ -253,6 +252,7 @@ function draw_graph(room, drawing) {
         room.textContent = `The graph has ${graph.boxes.length} blocks, which are too many to draw.`;
         return { ...graph, row_of: new Map() };
     }
+    [LETTER, GLYPH, LINE] = is_phone() ? [16, 9.7, 20] : [12, 7.3, 16];
     const nodes = nodes_of(graph.boxes, graph.edges);
     const layers = layers_of(nodes, graph.edges);
     order_layers(layers);
@@ -264,7 +264,8 @@ function draw_graph(room, drawing) {
     const told = `${graph.boxes.length} blocks and ${graph.edges.length} edges`;
     const view = `${Math.floor(left)} 0 ${wide} ${height}`;
     const svg = svg_element("svg", { viewBox: view, role: "img", "aria-label": told });
-    svg.style.width = `min(${wide}px, max(100%, ${Math.ceil(wide * LEAST_SCALE)}px))`;
+    svg.style.fontSize = `${LETTER}px`;
+    svg.style.width = `min(${wide}px, max(100%, ${Math.ceil(wide * (is_phone() ? 1 : LEAST_SCALE))}px))`;
     const row_of = new Map();
     svg.append(...drawn_edges.map(([path]) => path), ...labels);
     for (const node of nodes.values()) {

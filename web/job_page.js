@@ -25,14 +25,21 @@ function program_fields(place) {
     needed.value = "0";
     need.append(needed);
     const source = made("textarea", "", "job_source");
-    Object.assign(source, { rows: 7, spellcheck: false, wrap: "off", ariaLabel: `${name} as eBPF assembly` });
+    Object.assign(source, { spellcheck: false, autocapitalize: "off", wrap: "off", ariaLabel: `${name} as eBPF assembly` });
+    const room = made("div", "", "source of_job");
+    const lines = made("div", "", "lines");
+    lines.ariaHidden = "true";
+    room.append(lines, source);
     const drop = made("button", "Remove", "job_drop");
     Object.assign(drop, { type: "button", ariaLabel: `Remove program ${place}` });
     drop.onclick = () => { drop_program(place); };
-    for (const field of [needed, source]) field.oninput = typed_job;
+    needed.oninput = typed_job;
+    source.oninput = () => { box.editor.number(); typed_job(); };
+    needed.setAttribute("aria-describedby", "job_need_word");
     const row = made("div", "", "row");
-    row.append(need, drop);
-    box.append(made("legend", name), source, row);
+    row.append(need, drop, made("span", "", "line_told"));
+    box.append(made("legend", name), room, row);
+    box.editor = new Editor(room);
     return box;
 }
 
@@ -50,6 +57,7 @@ function show_programs(programs) {
         const box = program_fields(place);
         box.querySelector(".job_need").value = need;
         box.querySelector(".job_source").value = source;
+        box.editor.number();
         box.querySelector(".job_drop").hidden = programs.length === 1;
         return box;
     }));
@@ -77,44 +85,68 @@ function show_job({ programs, ...fields }) {
 
 // ---- verdicts
 
-// The bytes of each program, or the refusal in words.
+// A refusal in words, with what to change; of a program also the line of its source. Each where it is known.
+class Refused extends Error {
+    constructor(told, change = "", program = null, line = null) {
+        super(told);
+        Object.assign(this, { change, program, line });
+    }
+}
+
+// The bytes of each program, or the refusal.
 function assembled(programs) {
     return programs.map(({ need, source }, place) => {
         const code = library.assemble(source);
         if (code.status) {
             const line = code.place === null ? "" : ` in line ${code.place}`;
-            throw new Error(`program ${place}: refused ${code.status}${line}: ${WORDS[code.status] ?? ""}`);
+            const told = `program ${place}: refused ${code.status}${line}: ${WORDS[code.status] ?? ""}`;
+            throw new Refused(told, MENDS[code.status], place, code.place);
         }
         const bytes = need.trim();
         if (!/^[0-9]{1,10}$/.test(bytes) || Number(bytes) >= 2 ** 32) {
             throw new Error(`program ${place}: the need is a number from 0 to ${2 ** 32 - 1}`);
         }
-        return { need: Number(bytes), code: code.bytes, source };
+        const lines = lines_by_slot(library.disassemble(code.bytes).text, source);
+        return { need: Number(bytes), code: code.bytes, source, lines };
     });
 }
 
-function refusal_text({ status, program, slot }, programs) {
-    if (program === null) return `refused ${status}: ${JOB_WORDS[status] ?? ""}`;
-    const { need, code, source } = programs[program];
-    const said = slot === null && status === 38 ? "" : library.explain(need, code, source).text.split("\n")[0];
-    return `program ${program}: ${said || `refused ${status}`}`;
+function job_change(status, { need, code }) {
+    return {
+        63: `Give the job a credit of at least ${library.verify(need, code).cost}.`,
+        64: `Give the job a buffer of at least ${counted(need, "byte")}.`,
+        65: "Take a credit of at most 2,147,483,647, and a buffer of at most 65,536 bytes.",
+    }[status];
+}
+
+function refusal({ status, program, slot }, programs) {
+    if (program === null) return new Refused(`refused ${status}: ${JOB_WORDS[status] ?? ""}`, job_change(status, programs[0]));
+    const { need, code, source, lines } = programs[program];
+    const explanation = slot === null && status === 38 ? "" : library.explain(need, code, source).text;
+    const other = need_of(status, explanation, code);
+    const change = other === null ? MENDS[status] : `To have it accepted, change the need of program ${program} from ${need} to ${other}.`;
+    const told = `program ${program}: ${explanation.split("\n")[0] || `refused ${status}`}`;
+    return new Refused(told, change, program, lines.get(slot) ?? null);
 }
 
 // Admits what is typed, and shows the job at its start.
 function admit_job() {
     forget_job();
+    for (const { editor } of program_boxes()) editor.number();
     const programs = assembled(typed_programs());
     const credit = Number(number("job_credit", 2n ** 32n));
     const job = { programs, credit, buffer: bytes("job_buffer") };
     const opened = JobRun.open(library, job);
-    if (opened.status) throw new Error(refusal_text(opened, programs));
+    if (opened.status) throw refusal(opened, programs);
     job_run = opened.run;
     const costs = programs.map(({ need, code }) => library.verify(need, code).cost);
     tell_job(`admitted; ${costs.map((cost, place) => `program ${place} costs ${cost}`).join(", ")}`, "good");
     show_run();
 }
 
-function tell_job(verdict, kind) {
+function tell_job(verdict, kind, change = "") {
+    at("job_mend").hidden = !change;
+    at("job_mend").textContent = change;
     at("job_verdict").textContent = verdict;
     at("job_verdict").className = `verdict ${kind}`;
 }
@@ -132,7 +164,8 @@ function job_guarded(work) {
             work(...given);
         } catch (wrong) {
             forget_job();
-            tell_job(wrong.message, "bad");
+            tell_job(wrong.message, "bad", wrong.change);
+            if (wrong.line) program_boxes()[wrong.program].editor.number(wrong.line);
         }
         keep_job();
     };
@@ -161,7 +194,22 @@ function show_run() {
     draw_map(run, task);
     draw_tree(run, task);
     draw_task(run, task);
+    mark_line(run, task);
     show_answer();
+}
+
+// Marks where the task that is chosen stands in the source of its program: at the instruction that is next, or at
+// its last one. (A text that someone types stays where it is.)
+function mark_line(run, task) {
+    const at_slot = (task.r0 === null ? run.next_of(task) : task.last)?.slot;
+    const line = run.job.programs[task.program].lines?.get(at_slot) ?? null;
+    program_boxes().forEach((box, place) => {
+        const is_its = place === task.program && line !== null;
+        box.editor.mark(is_its ? line : null);
+        box.querySelector(".line_told").textContent = !is_its ? "" :
+            `Task ${task.number} ${task.r0 === null ? "is at" : "ended at"} line ${line}.`;
+        if (is_its && run.at && document.activeElement !== box.editor.field) box.editor.see(line);
+    });
 }
 
 // Whether the order knows a next task.
@@ -252,7 +300,7 @@ function run_in_order() {
 
 function run_all() {
     if (!job_run || !run_in_order()) return;
-    chosen = 0;
+    chosen = job_run.step?.task ?? 0;
     show_run();
     const is_long = job_run.steps.length >= MOST_STEPS && !job_run.is_complete;
     if (is_long) at("job_told").textContent = `stopped after ${MOST_STEPS} steps, which is as many as are shown`;

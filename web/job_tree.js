@@ -98,8 +98,10 @@ function new_row(number) {
         one.append(...parts);
         return one;
     };
-    row.append(room("head", go, room("name"), room("state")));
-    row.append(room("meter", bar_of("credit", "credit: used, and held"), room("used")));
+    const last = made("span", "last step", "last");
+    last.ariaHidden = "true"; // the step itself is told where it is taken
+    row.append(room("head", go, room("name"), room("state"), last));
+    row.append(room("meter", bar_of("credit", ""), room("used")));
     row.append(room("meter", bar_of("range", "part of the buffer"), room("part")));
     return row;
 }
@@ -112,6 +114,8 @@ function fill_row(run, row, task, chosen) {
         `spent ${task.used}, returned ${task.held - task.used} `;
     part("part").textContent = range_text(task);
     part("go").hidden = task.r0 !== null;
+    part("last").hidden = run.step?.task !== task.number;
+    part("credit").title = `the credit, ${part("used").textContent.trim()}, of ${task.given} given`;
     part("credit").style.width = share_of(task.given, run.job.credit);
     part("credit").firstChild.style.width = share_of(task.used, task.given);
     part("credit").style.setProperty("--kept", share_of(task.held, task.given));
@@ -119,7 +123,6 @@ function fill_row(run, row, task, chosen) {
     range.style.left = share_of(task.base, run.buffer.length);
     range.style.width = share_of(task.size, run.buffer.length);
     row.className = [task.r0 === null ? "alive" : "ended", task.refused ? "refused" : ""].join(" ").trim();
-    row.classList.toggle("now", run.step?.task === task.number);
     row.ariaLevel = String(task.place.length + 1);
     row.style.setProperty("--level", Math.min(task.place.length, 12));
     row.ariaSelected = String(task === chosen);
@@ -153,7 +156,9 @@ function draw_tree(run, chosen) {
     const live = run.tasks.filter((task) => task.r0 === null).length;
     at("job_tree_facts").textContent = `${counted(run.tasks.length, "task")}, ${live} alive` +
         (more ? `, ${more} of them not drawn` : "");
-    if (had_focus) at(`task_${chosen.number}`)?.focus({ preventScroll: true });
+    const row = at(`task_${chosen.number}`);
+    if (row) see_within(room, row.offsetTop - room.offsetTop, row.offsetHeight);
+    if (had_focus) row?.focus({ preventScroll: true });
 }
 
 // ---- the task that is chosen
@@ -186,7 +191,7 @@ class TaskView {
 
 function draw_task(run, task) {
     const view = new TaskView(run, task);
-    const wide = matchMedia("(max-width: 30rem)").matches ? 8 : 16;
+    const wide = bytes_in_row();
     at("job_task_name").textContent = `Task ${task.number}`;
     at("job_task_facts").textContent = `${task_place(task)}, program ${task.program}, argument ${task.argument}, ` +
         `given ${task.given}, ${state_text(run, task)}`;
@@ -199,6 +204,16 @@ function draw_task(run, task) {
 
 // ---- the answer
 
+const ANSWER_HEADS = ["Schedule", "Steps", "R0", "Spent", "Returned", "Tasks", "Buffer", "Answer"];
+
+// (a table that is laid out as cards would be none for readers)
+function with_roles(row) {
+    row.setAttribute("role", "row");
+    const roles = { row: "rowheader", col: "columnheader" };
+    for (const cell of row.children) cell.setAttribute("role", roles[cell.scope] ?? "cell");
+    return row;
+}
+
 function answer_row(name, answer, shown) {
     const row = made("tr", "");
     const head = made("th", name);
@@ -206,28 +221,31 @@ function answer_row(name, answer, shown) {
     row.append(head);
     if (!answer) {
         const none = made("td", `not over after ${MOST_STEPS} steps`);
-        none.colSpan = 6;
+        none.colSpan = 7;
         row.append(none);
-        return row;
+        return with_roles(row);
     }
     const { steps, r0, spent, returned, buffer, r0s } = answer;
     const told = [steps, r0, spent, returned, r0s.length, buffer.length > 32 ? `${buffer.slice(0, 32)}..` : buffer || "-"];
-    row.append(...told.map((one) => made("td", String(one))));
-    row.append(made("td", answer === shown ? "shown" : is_same_answer(answer, shown) ? "the same" : "another answer"));
-    return row;
+    told.push(answer === shown ? "shown" : is_same_answer(answer, shown) ? "the same" : "another answer");
+    row.append(...told.map((one, place) => {
+        const cell = made("td", String(one));
+        cell.dataset.head = ANSWER_HEADS[place + 1];
+        return cell;
+    }));
+    return with_roles(row);
 }
 
 // The answer of the job beside those of other schedules. Answers whether all are the same.
 function draw_answers(shown, others) {
-    const heads = ["Schedule", "Steps", "R0", "Spent", "Returned", "Tasks", "Buffer", "Answer"];
     const head = made("tr", "");
-    head.append(...heads.map((name) => {
+    head.append(...ANSWER_HEADS.map((name) => {
         const cell = made("th", name);
         cell.scope = "col";
         return cell;
     }));
     const rows = [answer_row("this one", shown, shown), ...others.map(([name, one]) => answer_row(name, one, shown))];
-    at("job_answers").tHead.replaceChildren(head);
+    at("job_answers").tHead.replaceChildren(with_roles(head));
     at("job_answers").tBodies[0].replaceChildren(...rows);
     return others.every(([, one]) => one && is_same_answer(one, shown));
 }

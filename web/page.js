@@ -15,6 +15,7 @@ const WORDS = {
 };
 
 let library;
+let editor; // that of the program
 let program = null; // what is known of the text: its bytes, its listing, its flow and its verdict
 let steps = null; // those of the last run
 let written = ""; // the address that the page wrote last
@@ -66,6 +67,7 @@ function made(name, text, className = "") {
 }
 
 function tell(verdict, kind, facts = []) {
+    hide("mend");
     at("verdict").textContent = verdict;
     at("verdict").className = `verdict ${kind}`;
     at("facts").replaceChildren(...facts.flatMap(([name, value]) => [made("dt", name), made("dd", String(value))]));
@@ -79,24 +81,9 @@ function hide(...ids) {
     for (const id of ids) at(id).hidden = true;
 }
 
-function number_lines(bad) {
-    const text = at("source").value;
-    const count = Math.max(1, text.split("\n").length - text.endsWith("\n"));
-    const lines = [];
-    for (let line = 1; line <= count; line++) {
-        lines.push(made("span", String(line), line === bad ? "bad" : ""));
-    }
-    at("lines").replaceChildren(...lines);
-    const widest = text.split("\n").reduce((most, line) => Math.max(most, line.replace(/\t/g, "        ").length), 0);
-    at("source").style.height = `${count * 20 + 36}px`;
-    at("source").style.width = `${widest + 3}ch`;
-    const marked = lines[(bad ?? 0) - 1];
-    if (marked) see_within(at("editor"), marked.offsetTop - at("lines").offsetTop, ROW);
-}
-
 // Bytes as lines of hexadecimal, with what changed marked.
 function tell_bytes(room, before, now) {
-    const wide = matchMedia("(max-width: 30rem)").matches ? 8 : 16;
+    const wide = bytes_in_row();
     const pieces = [];
     let text = "";
     for (let start = 0; start < now.length; start += wide) {
@@ -131,11 +118,12 @@ function tell_memory(before, now) {
 function refused_text(code) {
     const where = code.place === null ? "" : ` in line ${code.place}`;
     tell(`refused ${code.status}${where}: ${WORDS[code.status] ?? ""}`, "bad");
+    tell_mend(code.status);
     const line = code.place === null ? "" : at("source").value.split("\n")[code.place - 1];
     at("explained").textContent = line.length > MOST_QUOTED ? `${line.slice(0, MOST_QUOTED)} ..` : line;
     at("explained").hidden = code.place === null;
     hide("flows", "graphs");
-    number_lines(code.place);
+    editor.number(code.place);
 }
 
 function show_flow(verdict, explanation) {
@@ -188,25 +176,19 @@ function draw_if_open() {
 function mark_step() {
     for (const one of mark_step.marked) one.classList.remove("now");
     mark_step.marked = [];
+    editor.mark(null);
     const step = steps?.step;
     if (!step) return;
     const row = program.flow.row_of.get(step.slot);
-    const line = at("lines").children[step.line - 1];
     const band = program.graph?.row_of.get(step.slot);
-    mark_step.marked = [program.flow.rows[row], line, band].filter((one) => one);
+    mark_step.marked = [program.flow.rows[row], band].filter((one) => one);
     for (const one of mark_step.marked) one.classList.add("now");
     see_within(at("flow"), row * ROW, ROW);
-    if (line) see_within(at("editor"), (step.line - 1) * ROW, ROW);
+    editor.mark(step.line ?? null);
+    if (editor.marked) editor.see(step.line);
     if (band) see_band(at("graph"), band);
 }
 mark_step.marked = [];
-
-// Scrolls a room so far that so many pixels from a place on can be seen.
-function see_within(room, top, height) {
-    if (top < room.scrollTop || top + 2 * height > room.scrollTop + room.clientHeight) {
-        room.scrollTop = Math.max(0, top - room.clientHeight / 2);
-    }
-}
 
 function go_to(place) {
     if (!steps) return;
@@ -269,15 +251,18 @@ function judge() {
     at("explained").hidden = !explanation;
     if (verdict.status) {
         tell(first || `refused ${verdict.status}: ${WORDS[verdict.status] ?? ""}`, "bad");
+        tell_mend(verdict.status, need_of(verdict.status, explanation, code.bytes));
     } else {
         const slots = code.bytes.length / 8;
         tell(`accepted, cost ${verdict.cost}`, "good", [["slots", slots], ["verified in", `${took.toFixed(2)} ms`]]);
     }
-    number_lines(program.bad === null ? null : line_of_slot(program.flow, program.bad));
+    editor.number(program.bad === null ? null : line_of_slot(program.flow, program.bad));
 }
 
 function refused_run(status) {
     tell(`refused ${status}: ${WORDS[status] ?? ""}`, "bad", [["cost", program.verdict.cost]]);
+    const { need, verdict: { cost } } = program;
+    tell_change({ 42: `Give it a credit of at least ${cost}.`, 43: `Give it a memory of at least ${counted(need, "byte")}.` }[status]);
 }
 
 function number_text(word) {
@@ -330,7 +315,7 @@ function write_address() {
 function show(source, fields) {
     at("source").value = source;
     for (const [id, usual] of Object.entries(FIELDS)) at(id).value = fields[id] ?? usual;
-    number_lines(null);
+    editor.number(null);
 }
 
 function guarded(work) {
@@ -341,7 +326,7 @@ function guarded(work) {
             hide("memories", "explained", "flows", "graphs");
             program = null;
             forget_steps();
-            number_lines(null);
+            editor.number(null);
             tell(wrong.message, "bad");
         }
     };
@@ -395,6 +380,12 @@ async function copy_link(room) {
     setTimeout(() => told(""), 3000);
 }
 
+// The pages of the docs stand beside this one, or where a package has put them.
+function link_pages() {
+    const folder = location.pathname.endsWith("/share/telgovan/telgovan.html") ? "../doc/telgovan/docs/" : "";
+    for (const link of document.querySelectorAll("[data-page]")) link.href = folder + link.dataset.page;
+}
+
 // ---- the views
 
 const VIEWS = ["program", "job"];
@@ -434,7 +425,7 @@ function listen_to_views() {
 
 function typed() {
     at("examples").value = "";
-    number_lines(null);
+    editor.number(null);
     clearTimeout(typed.timer);
     typed.timer = setTimeout(do_verify, 300);
 }
@@ -497,6 +488,8 @@ function tell_unable(why) {
 }
 
 async function start() {
+    editor = new Editor(at("editor"));
+    link_pages();
     const unable = told_unable();
     if (unable) {
         tell_unable(unable);

@@ -139,7 +139,7 @@ function tell_registers(room, steps) {
 // Shows where the steps stand.
 function tell_steps(steps) {
     const { step } = steps;
-    const wide = matchMedia("(max-width: 30rem)").matches ? 8 : 16;
+    const wide = bytes_in_row();
     at("step_at").value = steps.at;
     const line = step?.line === undefined ? "" : `, line ${step.line}`;
     at("step").textContent = step ? `step ${steps.at} of ${steps.steps.length}: slot ${step.slot}${line}: ${step.insn}`
