@@ -186,6 +186,7 @@ class Objects:
         # none is there for others until all are made
         self.memory, self.world = bytearray(range(8)), World(job, bytes(8), 40)
         self.program, self.asking, self.task, self.job = program, asking, task, job
+        self.machine = Machine(program)
         self.desk, self.client, self.number = desk, client, 1
 
     def held(self):
@@ -276,10 +277,13 @@ class Objects:
             "Program.share": (self.program.share,),
             "Program.close": (self.program.close,),
             "HostedTask": (HostedTask, self.asking, len(memory), 3, 99),
-            "HostedTask.go": (self.task.go, memory, 3, 2),
+            "HostedTask.go": (self.task.go, memory, self.random.choice([3, None]), 2),
             "HostedTask.run": (self.task.run, memory, self.helpers()),
             "HostedTask.close": (self.task.close,),
             "Machine": (Machine, self.program),
+            "Machine.execute": (self.machine.execute, memory, 3, 99),
+            "Machine.burst": (self.machine.burst, memory, [(0, 4, 1), (4, 4, 2)], 99),
+            "Machine.close": (self.machine.close,),
             "Job": (Job, root, child),
             "Job.play": (self.job.play, memory, 40, 9),
             "Job.trace": (self.job.trace, memory, 40, [0, 0, 0, 0, 0, 1, 0, 1]),
