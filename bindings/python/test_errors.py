@@ -36,8 +36,11 @@ class Told(unittest.TestCase):
         self.assertEqual(self.told(refused_by(assemble, "")), (1, None, None, None))
         short = refused_by(Program(1, code).execute, bytearray())
         self.assertEqual(self.told(short), (43, None, None, None))
-        job = refused_by(Job((0, code), (0, unset)).play, bytearray(), 9)
-        self.assertEqual(self.told(job), (31, 0, None, 1))
+        job = Job((0, code), (0, unset))
+        self.assertEqual(self.told(refused_by(job.play, bytearray(), 9)), (31, 0, None, 1))
+        self.assertEqual(self.told(refused_by(job.open, b"", 9)), (31, 0, None, 1))
+        # which tells no slot
+        self.assertEqual(self.told(refused_by(job.trace, b"", 9, [0])), (31, None, None, 1))
         self.assertEqual(self.told(refused_by(run_once, 0, unset, bytearray())), (31, None, None, None))
 
     def test_the_older_names(self):

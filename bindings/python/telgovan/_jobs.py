@@ -18,7 +18,7 @@ from ._arguments import (
 from ._errors import Error, passed
 from ._held import Held
 from ._records import Report, Stepped, Task
-from ._texts import steps_of, written
+from ._texts import roomy, steps_of, written
 
 
 def _refusal_of(report: _calls.JobReport) -> Error:
@@ -35,8 +35,8 @@ class Job:
     credit of the whole job, at most 2,147,483,647, and its buffer, of at most 65,536 bytes.
 
     Error of those calls, and nothing has changed: 61 no program, 62 over 16, 65 over a limit, 1 to
-    38 of a program that isn't accepted, whose place and slot are told, 63 the credit is under the
-    root's cost, 64 the buffer is shorter than the root's need, 99.
+    38 of a program that isn't accepted, whose place is told, and its slot but by `trace`; 63 the
+    credit is under the root's cost, 64 the buffer is shorter than the root's need, 99.
 
     >>> buffer = bytearray(2)
     >>> job = Job((2, assemble("mov64 r0, 7\\nstxb [r1+1], r0\\nexit")))
@@ -47,15 +47,15 @@ class Job:
     _programs: tuple[Any, ...] = (b"", 0, (_calls.Piece * 1)(), 0)
 
     def __init__(self, *programs: Iterable[Any]) -> None:
-        code, pieces = b"", (_calls.Piece * max(len(programs), 1))()
         pairs = [items_of(program, "a program", 2) for program in programs]
-        for piece, (need, part) in zip(pieces, pairs):
-            part = bytes_of(part, "code")
-            piece.start, piece.length = len(code), len(part)
-            piece.need = number_of(need, _calls.WORD, "need")
-            code += part
+        needs = [number_of(need, _calls.WORD, "need") for need, _ in pairs]
+        codes = [bytes_of(code, "code") for _, code in pairs]
+        pieces, start = (_calls.Piece * max(len(programs), 1))(), 0
+        for piece, need, code in zip(pieces, needs, codes):
+            piece.start, piece.length, piece.need = start, len(code), need
+            start += len(code)
         # at once, since a thread may play the job meanwhile
-        self._programs = (code, len(code), pieces, len(programs))
+        self._programs = (b"".join(codes), start, pieces, len(programs))
 
     def play(
         self, buffer: WriteableBuffer, credit: SupportsIndex, room: SupportsIndex = 1024
@@ -85,7 +85,11 @@ class Job:
         entries = [number_of(task, _calls.WORD, "a task") for task in tasks]
         numbers = (_calls.U32 * max(len(entries), 1))(*entries)
         given = self._given(buffer, credit)
-        return steps_of(written(1 << 16, _calls.job_trace, *given, numbers, len(entries)))
+        status, told, text = roomy(1 << 16, _calls.job_trace, *given, numbers, len(entries))
+        if status:
+            # the place is that of the program
+            raise Error(status, None, told.place if told.has_place else None)
+        return steps_of(text)
 
     def _given(self, buffer: ReadableBuffer, credit: SupportsIndex) -> tuple[Any, ...]:
         """The job on a copy of a buffer, as calls take it."""
