@@ -305,7 +305,7 @@ class Objects:
         }
 
     def keep(self, made):
-        """What a call answered takes part in the next ones."""
+        """Lets the next calls have what a call answered."""
         for name in ("program", "task", "job", "world", "desk"):
             if type(made) is type(getattr(self, name)) and self.random.random() < 0.5:
                 setattr(self, name, made)
@@ -324,12 +324,12 @@ class Objects:
 
 
 def spelled(value):
-    """What is noted of an argument, whose own methods may fail."""
+    """The note of an argument, whose own methods may fail."""
     return f"{value!r:.60}" if type(value) in (int, str, bytes, bytearray) else type(value).__name__
 
 
 def come_to(call, given, objects):
-    """What a call comes to: `answered`, or the kind of its exception."""
+    """The end of a call: `answered`, or the kind of its exception."""
     try:
         objects.keep(call(*given))
     except ValueError:

@@ -1,4 +1,4 @@
-"""What an Error tells, and how it goes from process to process."""
+"""Errors: the words and places that they tell, and their way from process to process."""
 
 import copy
 import pickle

@@ -28,7 +28,7 @@ def blocks():
 
 
 def names(block):
-    """What a block counts on."""
+    """The names that a block counts on."""
     if "HostedTask" in block:
         program = telgovan.Program(0, telgovan.assemble(ASKS), {64: 1, 65: 1})
     else:

@@ -230,7 +230,7 @@ class Waiting(unittest.TestCase):
         self.done()
 
     def test_a_helper_that_answers_for_itself(self):
-        """What it returns isn't taken for the answer of the next question."""
+        """The number that it returns isn't taken for the answer of the next question."""
         given = helpers()
 
         def answers(key, *_):

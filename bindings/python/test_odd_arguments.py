@@ -51,7 +51,7 @@ class Fuzz(unittest.TestCase):
     SEEDS, CALLS = range(1, 6), 4000
 
     def told_of(self, seed):
-        """What the calls of a process of its own came to."""
+        """The ends of the calls of a process of its own."""
         script = os.path.join(HERE, "odd_arguments.py")
         with tempfile.TemporaryDirectory() as room:
             note = os.path.join(room, "note")

@@ -35,7 +35,7 @@ def public_callables():
 
 class WithoutALibrary(unittest.TestCase):
     def told(self, package, **words):
-        """What Python prints for an import of the package that stands in this folder."""
+        """Python's status and errors for an import of the package in this folder."""
         kept = {name: text for name, text in os.environ.items() if name != "TELGOVAN_LIB"}
         script = "import sys; sys.path.insert(0, sys.argv[1]); import telgovan"
         ran = subprocess.run(

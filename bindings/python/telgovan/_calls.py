@@ -1,4 +1,4 @@
-"""What include/telgovan.h declares, as far as this package calls it: its structures, and its
+"""The declarations of include/telgovan.h, as far as this package calls them: structures, and
 functions without the `telgovan_` that each name begins with."""
 
 from __future__ import annotations
@@ -10,7 +10,7 @@ from ._library import ADVICE, LIBRARY
 
 U32, U64, BOOL = ctypes.c_uint32, ctypes.c_uint64, ctypes.c_bool
 
-# How many values a word of 32 bits has.
+# The number of values of a word of 32 bits.
 WORD = 2**32
 
 # No helper is of this id.

@@ -15,8 +15,8 @@ class Error(Exception):
     """The library refuses a call, and nothing has changed.
 
     code     the number of the refusal, 1 to 255, of docs/refusals.md
-    text     what the number says, in a few words
-    advice   what to do about it
+    text     the fault, in a few words
+    advice   a way to mend it
     slot     where it stands in a program: the slot, counted from 0, or None
     line     where it stands in a source text: the line, counted from 1, or None
     program  the place of the program of a job that it is about, from 0, or None
@@ -44,12 +44,12 @@ class Error(Exception):
 
     @property
     def text(self) -> str:
-        """What the number says, in a few words."""
+        """The fault, in a few words."""
         return REFUSALS.get(self.number, _UNKNOWN)[0]
 
     @property
     def advice(self) -> str:
-        """What to do about it."""
+        """A way to mend it."""
         return REFUSALS.get(self.number, _UNKNOWN)[1]
 
     @property

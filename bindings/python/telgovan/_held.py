@@ -1,4 +1,4 @@
-"""What the library holds for its host, by a handle."""
+"""Objects that the library holds for its host, by handles."""
 
 from __future__ import annotations
 
@@ -10,7 +10,7 @@ Made = TypeVar("Made", bound="Held")
 
 
 class Held:
-    """What the library holds by a handle, from __new__ on, so that there is always a handle.
+    """An object that the library holds. It has a handle from __new__ on, so there always is one.
 
     One call at a time uses it, and calls from other threads wait. One of the same thread comes from
     a signal or from what is thrown away, and never while the library runs, so it is let in."""

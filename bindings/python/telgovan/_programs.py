@@ -25,7 +25,7 @@ FIRST_HELPER, HELPERS = 64, 64
 
 
 def executed(outcome: _calls.Outcome) -> Executed:
-    """What an outcome says, or its refusal."""
+    """The result that an outcome tells, or its refusal."""
     passed(outcome.status)
     return Executed(outcome.r0, outcome.used)
 
@@ -61,7 +61,7 @@ def run_once(
 
 
 def arities_of(helpers: Mapping[int, int]) -> Any:
-    """How many arguments each helper of a host's takes, by its id from 64 on."""
+    """The number of arguments of each helper of a host's, by its id from 64 on."""
     words = (_calls.U32 * HELPERS)(*[_calls.NO_HELPER] * HELPERS)
     for helper, arity in dict(mapping_of(helpers, "helpers")).items():
         place = whole(helper, "a helper") - FIRST_HELPER

@@ -1,4 +1,4 @@
-"""What calls answer, as named tuples."""
+"""The answers of calls, as named tuples."""
 
 # (Their annotations are evaluated, unlike those of other modules, so that help shows the types.)
 
@@ -49,7 +49,7 @@ Task.r0.__doc__ = "R0 at its end, of 64 bits"
 
 
 class Report(NamedTuple):
-    """What a job came to."""
+    """The result of a job."""
 
     spent: int
     returned: int
@@ -64,7 +64,7 @@ Report.tasks.__doc__ = "the first of them, in order of their numbers"
 
 
 class Stepped(NamedTuple):
-    """What a run of a job's task came to, and how the job stands."""
+    """The result of a run of a job's task, and the sums of the job."""
 
     count: int  # type: ignore[assignment]
     r0: Optional[int]

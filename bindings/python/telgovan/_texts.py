@@ -27,7 +27,7 @@ def roomy(size: int, call: Callable[..., Any], *given: Any) -> tuple[int, _calls
 
 
 def written(size: int, call: Callable[..., Any], *given: Any) -> bytes:
-    """What a call writes."""
+    """The bytes that a call writes."""
     status, told, text = roomy(size, call, *given)
     if status:
         raise refusal_of(status, told)

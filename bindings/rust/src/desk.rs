@@ -125,8 +125,8 @@ impl Desk {
         Ok(sent)
     }
 
-    /// Ends the conversation of a connection, and drops what was still to be sent. Its jobs stay. 78
-    /// where there is no such connection.
+    /// Ends the conversation of a connection, and drops what was still to be sent. Its jobs stay.
+    /// 78 where there is no such connection.
     pub fn disconnect(&mut self, connection: u64) -> Result<(), Error> {
         // The library writes the handle alone.
         passed(unsafe { raw::telgovan_desk_disconnect(&mut self.handle, connection) })
@@ -165,7 +165,8 @@ impl Desk {
 
     /// Ends a job that was handed over with its report, the buffer as the job left it, and the
     /// tasks that are to be told. 76 where it is over already, or wasn't handed over; 65 where a
-    /// task's program is over 65,535. A report that doesn't add up to the job's credit counts as 82.
+    /// task's program is over 65,535. A report that doesn't add up to the job's credit counts as
+    /// 82.
     pub fn finish(
         &mut self,
         number: u64,

@@ -55,7 +55,7 @@ pub enum Error {
     },
     /// A task asks, and its helper isn't registered or has no answer. The question stays asked.
     Unanswered(
-        /// What is asked.
+        /// The question, which waits.
         Question,
     ),
 }
@@ -137,12 +137,12 @@ impl Error {
         }
     }
 
-    /// What is wrong, in a few words.
+    /// The fault, in a few words.
     pub fn text(&self) -> &'static str {
         self.words().0
     }
 
-    /// What to do about it.
+    /// A way to mend it.
     pub fn advice(&self) -> &'static str {
         self.words().1
     }

@@ -10,7 +10,7 @@ use crate::raw;
 const FIRST: u32 = 64;
 const IDS: usize = 64;
 
-/// How many instructions run at most until a task that runs to its end is asked again.
+/// The most instructions that run until a task that runs to its end is asked again.
 const STRETCH: u32 = u32::MAX;
 
 type Function<'h> = Box<dyn FnMut(u64, u64, u64, u64, u64) -> Option<u64> + 'h>;
@@ -65,8 +65,8 @@ impl<'h> Helpers<'h> {
         })
     }
 
-    /// As [`Helpers::register`], for a helper that may have no answer. Then [`HostedTask::run`] ends
-    /// by [`Error::Unanswered`], and its question stays asked.
+    /// As [`Helpers::register`], for a helper that may have no answer. Then [`HostedTask::run`]
+    /// ends by [`Error::Unanswered`], and its question stays asked.
     ///
     /// ```
     /// use telgovan::{assemble, Error, Helpers, Program};
@@ -103,7 +103,7 @@ impl<'h> Helpers<'h> {
         Ok(())
     }
 
-    /// What the helper of a question answers, if it is registered and has an answer.
+    /// The answer of a question's helper, if it is registered and has one.
     pub fn answer(&mut self, question: &Question) -> Option<u64> {
         let place = question.helper.checked_sub(FIRST)? as usize;
         let function = self.functions.get_mut(place)?.as_mut()?;
@@ -111,7 +111,7 @@ impl<'h> Helpers<'h> {
         function(a, b, c, d, e)
     }
 
-    /// How many arguments each helper takes, as the library is told.
+    /// The number of arguments of each helper, as the library is told.
     pub(crate) fn arities(&self) -> &[u32; IDS] {
         &self.arities
     }
@@ -259,8 +259,8 @@ impl HostedTask {
         self.question
     }
 
-    /// Goes on, with the answer to the question that waits; where none waits, the answer is ignored.
-    /// Where one waits and there is no answer, nothing runs, and it is asked once more.
+    /// Goes on, with the answer to the question that waits; where none waits, the answer is
+    /// ignored. Where one waits and there is no answer, nothing runs, and it is asked once more.
     ///
     /// `limit` instructions run at most, of which the call that was answered isn't one. The memory
     /// may have changed since the last piece.

@@ -9,10 +9,10 @@ pub use crate::raw::Task;
 
 /// The programs of a job, by their places. The first is the root's.
 ///
-/// Its calls verify the programs. Each takes the credit of the whole job, at most 2,147,483,647, and
-/// a buffer of at most 65,536 bytes. The refusals, after which all is as it was: 62 over 16 programs,
-/// 65 over a limit, those of a program, which are [`Error::InProgram`], 63 a credit under the root's
-/// cost, 64 a buffer shorter than its need, 99 out of memory.
+/// Its calls verify the programs. Each takes the credit of the whole job, at most 2,147,483,647,
+/// and a buffer of at most 65,536 bytes. The refusals, after which all is as it was: 62 over 16
+/// programs, 65 over a limit, those of a program, which are [`Error::InProgram`], 63 a credit under
+/// the root's cost, 64 a buffer shorter than its need, 99 out of memory.
 ///
 /// ```
 /// use telgovan::{assemble, Job, Task};
@@ -108,10 +108,10 @@ impl Job {
         })
     }
 
-    /// The steps of the job on a copy of the buffer, along a schedule: the numbers of the tasks whose
-    /// instruction is next, of which those that aren't alive are passed over. A JSON object is on a
-    /// line each, as of [`trace`](crate::trace), with its `task`, and `r0` where the task ends or
-    /// `spawned` where it has a child.
+    /// The steps of the job on a copy of the buffer, along a schedule: the numbers of the tasks
+    /// whose instruction is next, of which those that aren't alive are passed over. A JSON object
+    /// is on a line each, as of [`trace`](crate::trace), with its `task`, and `r0` where the task
+    /// ends or `spawned` where it has a child.
     ///
     /// ```
     /// let job = telgovan::Job::new(0, &telgovan::assemble("mov64 r0, 7\nexit")?);
@@ -154,7 +154,7 @@ fn report_of(status: u32, told: &raw::Written) -> raw::Report {
     }
 }
 
-/// What a job came to.
+/// The result of a job.
 ///
 /// ```
 /// use telgovan::{assemble, Job, Report};
@@ -166,7 +166,7 @@ fn report_of(status: u32, told: &raw::Written) -> raw::Report {
 /// ```
 #[derive(Clone, Copy, Debug, PartialEq, Eq)]
 pub struct Report {
-    /// How many tasks it had.
+    /// The number of its tasks.
     pub tasks: u64,
     /// The credit that they spent.
     pub spent: u32,

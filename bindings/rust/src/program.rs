@@ -47,8 +47,8 @@ pub struct Program {
 impl Program {
     /// Verifies a program that needs so many bytes of memory, at most 65,536.
     ///
-    /// The refusals: 38 for the need, 1 to 7 for the bytes, 21 to 25 for the jumps, 31 to 37 for the
-    /// instructions, 99 out of memory.
+    /// The refusals: 38 for the need, 1 to 7 for the bytes, 21 to 25 for the jumps, 31 to 37 for
+    /// the instructions, 99 out of memory.
     pub fn verify(need: u32, code: &[u8]) -> Result<Program, Error> {
         // The library reads the code, and writes the handle and the verdict alone.
         Program::loaded(need, |handle, verdict| unsafe {
@@ -74,7 +74,7 @@ impl Program {
         })
     }
 
-    // What a call of the library puts into a handle, or the refusal that it answers.
+    // The program that a call of the library puts into a handle, or the refusal that it answers.
     fn loaded(
         need: u32,
         load: impl FnOnce(&mut raw::Program, &mut raw::Verdict) -> u32,
@@ -112,8 +112,8 @@ impl Program {
         self.cost
     }
 
-    /// Runs the program once, in place, with the memory as its part. Takes no memory of its own. The
-    /// argument is what the program finds in R3.
+    /// Runs the program once, in place, with the memory as its part. Takes no memory of its own.
+    /// The argument is what the program finds in R3.
     ///
     /// The refusals, after which the memory is as it was: 65 over 65,536 bytes or a credit over
     /// 2,147,483,647, 42 a credit under the cost, 43 a memory shorter than the need, 48 a program
@@ -141,7 +141,8 @@ impl Program {
 
     /// Runs the program on each piece of the memory in turn, each time with this credit. A run that
     /// is refused, as by `execute` and by 43 where the memory has no such piece, doesn't stop the
-    /// next. A program that may call helpers of the host's runs as a task: each run is refused by 48.
+    /// next. A program that may call helpers of the host's runs as a task: each run is refused by
+    /// 48.
     pub fn burst(
         &self,
         memory: &mut [u8],
@@ -167,8 +168,8 @@ impl Program {
         runs.iter().map(|run| executed(run.outcome)).collect()
     }
 
-    /// One more owner of the same program, as a clone is. Nothing is verified or copied. Refused for
-    /// want of memory alone, by 99.
+    /// One more owner of the same program, as a clone is. Nothing is verified or copied. Refused
+    /// for want of memory alone, by 99.
     pub fn share(&self) -> Result<Program, Error> {
         let mut other = raw::Program::none();
         // The library writes the two handles alone.
@@ -185,7 +186,8 @@ impl Clone for Program {
     ///
     /// # Panics
     ///
-    /// Where the library gets no memory for one more owner. [`Program::share`] tells that by an error.
+    /// Where the library gets no memory for one more owner. [`Program::share`] tells that by an
+    /// error.
     fn clone(&self) -> Program {
         self.share().expect("memory for one more owner")
     }
@@ -210,7 +212,7 @@ impl fmt::Debug for Program {
     }
 }
 
-/// What a run came to.
+/// The result of a run.
 ///
 /// ```
 /// use telgovan::{assemble, Executed, Program};
@@ -223,7 +225,7 @@ impl fmt::Debug for Program {
 pub struct Executed {
     /// R0 at the end.
     pub r0: u64,
-    /// What the run used of its credit.
+    /// The part of its credit that the run used.
     pub used: u32,
 }
 
@@ -245,9 +247,9 @@ pub struct Executed {
 pub struct Piece {
     /// The place of its first byte in the memory.
     pub start: usize,
-    /// How many bytes it has.
+    /// Its length in bytes.
     pub length: usize,
-    /// What the program finds in R3.
+    /// The number that the program finds in R3.
     pub argument: u64,
 }
 

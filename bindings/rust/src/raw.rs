@@ -1,13 +1,13 @@
-//! What `include/telgovan.h` declares, as far as this crate calls it.
+//! The declarations of `include/telgovan.h`, as far as this crate calls them.
 //!
 //! Of a handle the header says: one call at a time uses it, and a thread gives it to another by a
-//! lock, by a thread's start or join, or by a sequentially consistent atomic. So each is `Send`, and
-//! by itself none is `Sync`, which the pointer in it rules out.
+//! lock, by a thread's start or join, or by a sequentially consistent atomic. So each is `Send`,
+//! and by itself none is `Sync`, which the pointer in it rules out.
 
 use std::ffi::c_void;
 use std::ptr;
 
-/// What is said of a program.
+/// The verdict of a program.
 #[repr(C)]
 #[derive(Clone, Copy, Default)]
 pub struct Verdict {
@@ -17,7 +17,7 @@ pub struct Verdict {
     pub has_slot: bool,
 }
 
-/// What was written into the caller's room.
+/// The text that was written into the caller's room.
 #[repr(C)]
 #[derive(Clone, Copy, Default)]
 pub struct Written {
@@ -27,7 +27,7 @@ pub struct Written {
     pub has_place: bool,
 }
 
-/// What a run came to.
+/// The result of a run.
 #[repr(C)]
 #[derive(Clone, Copy, Default)]
 pub struct Outcome {
@@ -128,7 +128,7 @@ pub struct CodePiece {
 #[repr(C)]
 #[derive(Clone, Copy, Debug, Default, PartialEq, Eq)]
 pub struct Task {
-    /// What its parent gave it; the root's is 0.
+    /// The number that its parent gave it; the root's is 0.
     pub argument: u64,
     /// R0 at its end.
     pub r0: u64,
@@ -138,13 +138,13 @@ pub struct Task {
     pub program: u32,
     /// The credit that it was given.
     pub given: u32,
-    /// How much of what it kept it spent.
+    /// The part of what it kept that it spent.
     pub spent: u32,
-    /// How much of what it kept came back.
+    /// The part of what it kept that came back.
     pub returned: u32,
 }
 
-/// What a job came to.
+/// The result of a job.
 #[repr(C)]
 #[derive(Clone, Copy, Default)]
 pub struct Report {
@@ -175,11 +175,11 @@ impl World {
     }
 }
 
-/// What a run of a job's task came to, beside 1, where it goes on.
+/// The ends of a run of a job's task, beside 1, where it goes on.
 pub const SKIPPED: u32 = 0;
 pub const HAS_ENDED: u32 = 2;
 
-/// What a run of a job's task came to, and how the job stands.
+/// The result of a run of a job's task, and the sums of the job.
 #[repr(C)]
 #[derive(Clone, Copy, Default)]
 pub struct Step {
@@ -212,7 +212,7 @@ impl Desk {
     }
 }
 
-/// What was given of the replies on a connection.
+/// The replies that were given on a connection.
 ///
 /// ```
 /// use telgovan::{Desk, Sent};
@@ -227,9 +227,9 @@ impl Desk {
 #[repr(C)]
 #[derive(Clone, Copy, Debug, Default, PartialEq, Eq)]
 pub struct Sent {
-    /// How many bytes were written into the room.
+    /// The number of bytes that were written into the room.
     pub count: u64,
-    /// How many are still to be sent.
+    /// The number of bytes that are still to be sent.
     pub left: u64,
 }
 

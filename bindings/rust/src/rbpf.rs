@@ -77,7 +77,7 @@ use crate::program::Program;
 /// ```
 pub type Helper = fn(u64, u64, u64, u64, u64) -> u64;
 
-/// How many arguments a helper takes whose number isn't said.
+/// The number of arguments of a helper of which it isn't said.
 const ALL: u32 = 5;
 
 /// A helper that was registered: its id, how many arguments it takes, and the function.
@@ -158,8 +158,8 @@ impl<'a> EbpfVmRaw<'a> {
         self.register_helper_with(key, ALL, function)
     }
 
-    /// As [`EbpfVmRaw::register_helper`], for a helper that takes so many arguments, 0 to 5: where it
-    /// is called, a program has set as many of R1 to R5, and the others are 0 for the function.
+    /// As [`EbpfVmRaw::register_helper`], for a helper that takes so many arguments, 0 to 5: where
+    /// it is called, a program has set as many of R1 to R5, and the others are 0 for the function.
     pub fn register_helper_with(
         &mut self,
         key: u32,
@@ -209,8 +209,7 @@ impl<'a> EbpfVmRaw<'a> {
         }
     }
 
-    // What the function of a helper answers. (One that the program was verified with stays
-    // registered.)
+    // The answer of a helper's function. (One that the program was verified with stays registered.)
     fn answer(&self, question: &Question) -> Result<u64, crate::Error> {
         let asked = |known: &&Registered| known.id == question.helper;
         let known = self.helpers.iter().find(asked);

@@ -55,7 +55,7 @@ pub fn disassemble(code: &[u8]) -> Result<String, Error> {
     Ok(String::from_utf8(lines).expect("lines are ASCII"))
 }
 
-/// Why a program of this need is refused, as text for whoever wrote it: the rule that it breaks, a
+/// Why a program of this need is refused, as text for whoever wrote it: what is wrong, a
 /// way that leads there, and what is known of each register there. `None` where it is accepted. A
 /// source text gives the line of the slot.
 ///
@@ -123,8 +123,8 @@ pub fn graph(need: u32, code: &[u8], source: Option<&str>) -> Result<String, Err
 }
 
 /// The steps of a program's run on this memory, which isn't changed: a JSON object on a line each,
-/// with the slot and the text of the instruction, the registers and the bytes that changed, and what
-/// the run has used. A source text gives the lines.
+/// with the slot and the text of the instruction, the registers and the bytes that changed, and
+/// what the run has used. A source text gives the lines.
 ///
 /// The refusals are those of the verdict, and of [`Program::execute`](crate::Program::execute).
 ///
@@ -186,7 +186,7 @@ fn roomy(
     }
 }
 
-/// What a call writes, or its status and what it tells where it is refused.
+/// The bytes that a call writes, or its status and what it tells where it is refused.
 pub(crate) fn written(
     size: usize,
     call: impl FnMut(&mut [u8], &mut raw::Written) -> u32,

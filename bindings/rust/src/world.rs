@@ -6,8 +6,8 @@ use crate::error::{passed, Error};
 use crate::raw;
 use crate::text;
 
-/// A job under way, whose tasks run in whatever order the host likes. [`Job::open`](crate::Job::open)
-/// begins it.
+/// A job under way, whose tasks run in whatever order the host likes.
+/// [`Job::open`](crate::Job::open) begins it.
 ///
 /// Once no task is alive, the buffer and the sums are the same whatever the order was, but where a
 /// spawn was refused for want of memory.
@@ -35,7 +35,7 @@ pub struct World {
     handle: raw::World,
 }
 
-/// What a run of a job's task came to, and how the job stands.
+/// The result of a run of a job's task, and the sums of the job.
 ///
 /// ```
 /// use telgovan::{assemble, Job, Stepped};
@@ -48,13 +48,13 @@ pub struct World {
 /// ```
 #[derive(Clone, Copy, Debug, Default, PartialEq, Eq)]
 pub struct Stepped {
-    /// How many instructions ran.
+    /// The number of instructions that ran.
     pub count: u32,
     /// R0 where the task has ended there.
     pub r0: Option<u64>,
     /// Whether the task was alive at all; else nothing ran.
     pub is_alive: bool,
-    /// How many tasks there are, numbered from 0 in the order of their spawns.
+    /// The number of tasks, which are numbered from 0 in the order of their spawns.
     pub tasks: u32,
     /// The credit that live tasks hold.
     pub held: u32,
@@ -62,14 +62,14 @@ pub struct Stepped {
     pub returned: u32,
     /// The credit that those spent. The three make what was issued.
     pub spent: u32,
-    /// What all tasks have used so far.
+    /// The credit that all tasks have used so far.
     pub used: u32,
     /// Whether no task is alive.
     pub is_complete: bool,
 }
 
 impl World {
-    /// What a call of the library opens, or the refusal that its report tells.
+    /// The job that a call of the library opens, or the refusal that its report tells.
     pub(crate) fn opened(
         open: impl FnOnce(&mut raw::World, &mut raw::Report) -> u32,
     ) -> Result<World, Error> {
@@ -83,8 +83,8 @@ impl World {
         }
     }
 
-    /// Runs the task of this number on: `limit` instructions at most, or until it ends. Nothing runs
-    /// where no task of the number is alive.
+    /// Runs the task of this number on: `limit` instructions at most, or until it ends. Nothing
+    /// runs where no task of the number is alive.
     pub fn run(&mut self, number: u32, limit: u32) -> Result<Stepped, Error> {
         let mut step = raw::Step::default();
         // The library writes the handle and the step alone.

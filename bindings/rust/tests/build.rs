@@ -1,4 +1,4 @@
-//! What the crate says where there is no library, and what its pages have.
+//! The crate's words where there is no library, and the examples of its types.
 
 use std::env;
 use std::fs;

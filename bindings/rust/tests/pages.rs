@@ -12,7 +12,8 @@ const PAGES: [(&str, &str); 3] = [
     ("bindings/rust/README.md", "# telgovan for Rust"),
 ];
 
-/// What the blocks count on. The program asks helper 64, and then 65, which `helpers` lacks.
+/// The names that the blocks count on. The program asks helper 64, and then 65, which `helpers`
+/// lacks.
 const AHEAD: &str = r#"
     let source = "ldxb r0, [r1+12]\nexit";
     let code = telgovan::assemble("ldxb r0, [r1+40]\nexit")?;
