@@ -4,7 +4,7 @@ from __future__ import annotations
 
 import ctypes
 import threading
-from typing import Any, Callable, ClassVar, TypeVar
+from typing import TYPE_CHECKING, Any, Callable, ClassVar, TypeVar
 
 Made = TypeVar("Made", bound="Held")
 
@@ -15,11 +15,12 @@ class Held:
     One call at a time uses it, and calls from other threads wait. One of the same thread comes from
     a signal or from what is thrown away, and never while the library runs, so it is let in."""
 
-    # the structure of the handle, and the function that lets go of what it holds
-    _HANDLE: ClassVar[type[ctypes.Structure]]
-    _FREE: ClassVar[Callable[[Any], Any]]
-    _lock: Any
-    _handle: Any
+    if TYPE_CHECKING:  # so that help doesn't show them
+        # the structure of the handle, and the function that lets go of what it holds
+        _HANDLE: ClassVar[type[ctypes.Structure]]
+        _FREE: ClassVar[Callable[[Any], Any]]
+        _lock: Any
+        _handle: Any
 
     def __new__(cls: type[Made], *_given: Any, **_named: Any) -> Made:
         made = super().__new__(cls)
