@@ -13,7 +13,7 @@ from pathlib import Path
 
 import programs
 from programs import telgovan
-from rows import fields
+from rows import fields, refusal
 
 FOLDER = Path(programs.TOP) / "examples/clang"
 EXAMPLES = FOLDER.parent
@@ -184,8 +184,8 @@ CASE = re.compile(r"^`(\w+\.c)`, `([^`]+)`, need (\d+): (accepted, cost \d+|refu
 def verdict(need, code):
     try:
         return f"accepted, cost {telgovan.Program(need, code).cost}"
-    except telgovan.Error as refusal:
-        return str(refusal)
+    except telgovan.Error as error:
+        return f"refused {refusal(error.code, error.slot)}"
 
 
 @unittest.skipUnless(FOUND == VERSION, f"the page's verdicts are on what clang {VERSION} makes")

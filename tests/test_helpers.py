@@ -6,6 +6,7 @@ from jobs import Program, no_spawn
 from machine import Task
 from programs import assemble, telgovan
 from rows import code_of, memory_of, refusal, rows, text_of
+from telgovan import _calls, _programs
 
 WORD = 1 << 64
 ANSWERING = assemble("mov64 r0, 42\nexit")
@@ -52,9 +53,9 @@ class Verdicts(unittest.TestCase):
                 self.assertEqual(self.verdict(int(need), code_of(row.program), helpers), row.answer)
 
     def verdict(self, need, code, helpers):
-        held, verdict = telgovan.Program(0, ANSWERING), telgovan._Verdict()
-        arities = telgovan._arities(helpers)
-        status = telgovan._load_with(need, code, len(code), arities, len(arities), held._handle, verdict)
+        held, verdict = telgovan.Program(0, ANSWERING), _calls.Verdict()
+        arities = _programs.arities_of(helpers)
+        status = _calls.program_load_with(need, code, len(code), arities, len(arities), held._handle, verdict)
         if status == 0:
             self.assertEqual(verdict.cost, telgovan.Program(need, code, helpers).cost)
             return f"cost {verdict.cost}"

@@ -33,7 +33,7 @@ LIBRARY = os.path.join(os.environ.get("TELGOVAN_LIB", os.path.join(TOP, "binding
 TOLD = (
     ("bindings/rust/Cargo.toml", r'^version = "(.*)"$'),
     ("bindings/python/pyproject.toml", r'^version = "(.*)"$'),
-    ("bindings/python/telgovan.py", r'^__version__ = "(.*)"$'),
+    ("bindings/python/telgovan/__init__.py", r'^__version__ = "(.*)"$'),
     ("crates/bpfjobs_cli/src/texts.rt", r'const VERSION: &str = "(.*)";$'),
     ("crates/bpfrun_core/src/texts.rt", r'const VERSION: &str = "(.*)";$'),
     ("crates/server_log/src/log_line.rt", r'\\"version\\":\\"(.*?)\\"'),

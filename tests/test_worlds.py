@@ -116,7 +116,8 @@ class Worlds(unittest.TestCase):
                 with self.assertRaises(telgovan.Error) as caught:
                     job.trace(buffer, credit, [0])
                 # (a text that isn't written has one place, which is the program's)
-                self.assertEqual((caught.exception.number, caught.exception.place), (refusal[0], refusal[2]))
+                told = caught.exception
+                self.assertEqual((told.number, told.place, told.program), (refusal[0], None, refusal[2]))
 
     def test_a_handle_that_holds_none(self):
         world = telgovan.Job((0, ANSWER)).open(b"", 2)

@@ -186,6 +186,7 @@ class Objects:
         # none is there for others until all are made
         self.memory, self.world = bytearray(range(8)), World(job, bytes(8), 40)
         self.program, self.asking, self.task, self.job = program, asking, task, job
+        self.machine = Machine(program)
         self.desk, self.client, self.number = desk, client, 1
 
     def held(self):
@@ -276,10 +277,13 @@ class Objects:
             "Program.share": (self.program.share,),
             "Program.close": (self.program.close,),
             "HostedTask": (HostedTask, self.asking, len(memory), 3, 99),
-            "HostedTask.go": (self.task.go, memory, 3, 2),
+            "HostedTask.go": (self.task.go, memory, self.random.choice([3, None]), 2),
             "HostedTask.run": (self.task.run, memory, self.helpers()),
             "HostedTask.close": (self.task.close,),
             "Machine": (Machine, self.program),
+            "Machine.execute": (self.machine.execute, memory, 3, 99),
+            "Machine.burst": (self.machine.burst, memory, [(0, 4, 1), (4, 4, 2)], 99),
+            "Machine.close": (self.machine.close,),
             "Job": (Job, root, child),
             "Job.play": (self.job.play, memory, 40, 9),
             "Job.trace": (self.job.trace, memory, 40, [0, 0, 0, 0, 0, 1, 0, 1]),
@@ -301,7 +305,7 @@ class Objects:
         }
 
     def keep(self, made):
-        """What a call answered takes part in the next ones."""
+        """Lets the next calls have what a call answered."""
         for name in ("program", "task", "job", "world", "desk"):
             if type(made) is type(getattr(self, name)) and self.random.random() < 0.5:
                 setattr(self, name, made)
@@ -320,12 +324,12 @@ class Objects:
 
 
 def spelled(value):
-    """What is noted of an argument, whose own methods may fail."""
+    """The note of an argument, whose own methods may fail."""
     return f"{value!r:.60}" if type(value) in (int, str, bytes, bytearray) else type(value).__name__
 
 
 def come_to(call, given, objects):
-    """What a call comes to: `answered`, or the kind of its exception."""
+    """The end of a call: `answered`, or the kind of its exception."""
     try:
         objects.keep(call(*given))
     except ValueError:

@@ -45,7 +45,7 @@ class Model(unittest.TestCase):
         return 2, assemble("\n".join([*lines, "mov64 r0, r7", "exit"]))
 
     def compare(self, programs, credit, buffer):
-        """How many tasks the job has."""
+        """The number of the job's tasks, which both tell alike."""
         job = by_model(programs, credit, buffer)
         totals = job.totals()
         lent = bytearray(buffer)

@@ -150,9 +150,128 @@ class Hosted(unittest.TestCase):
         # it waits for the answer still
         self.assertEqual(task.go(memory, answer=30), Asked(64, (4, 0, 0, 0, 0)))
 
+        self.assertEqual(task.run(memory, helpers()).r0, 70)
+
     def test_is_not_copied(self):
         with self.assertRaises(TypeError):
             copy.copy(HostedTask(ask(), 2))
+
+
+class Waiting(unittest.TestCase):
+    """A question that waits stays asked until it is answered."""
+
+    def setUp(self):
+        self.task, self.memory = HostedTask(ask(), 2), bytearray([3, 4])
+        self.first, self.second = Asked(64, (3, 0, 0, 0, 0)), Asked(64, (4, 0, 0, 0, 0))
+
+    def done(self):
+        """The task goes on to its end, as if nothing had happened."""
+        self.assertEqual(self.task.run(self.memory, helpers()), Executed(70, 32))
+        self.assertEqual((self.memory[0], self.task.question), (70, None))
+
+    def test_a_run_answers_what_go_was_asked(self):
+        told = []
+        self.assertEqual(self.task.go(self.memory), self.first)
+        self.assertEqual(self.task.run(self.memory, helpers(told)), Executed(70, 32))
+        self.assertEqual([call[:2] for call in told], [(64, 3), (64, 4), (65, 30)])
+
+    def test_a_run_without_the_helper(self):
+        for missing in (64, 65):
+            self.setUp()
+            given = helpers()
+            del given[missing]
+            for _ in range(3):
+                self.assertRaises(KeyError, self.task.run, self.memory, given)
+                self.assertEqual(self.task.question.helper, missing)
+            self.done()
+
+    def test_a_run_without_the_helper_is_answered_by_go(self):
+        self.assertRaises(KeyError, self.task.run, self.memory, {})
+        self.assertEqual(self.task.go(self.memory, answer=30), self.second)
+        self.done()
+
+    def test_a_run_whose_helper_fails(self):
+        def fails(*_):
+            raise OSError("not now")
+
+        for failing in ({64: fails}, {**helpers(), 65: fails}):
+            self.setUp()
+            for _ in range(3):
+                self.assertRaises(OSError, self.task.run, self.memory, failing)
+            self.done()
+
+    def test_a_run_whose_helper_answers_no_number(self):
+        for odd in (None, "30", 30.0):
+            self.assertRaises(TypeError, self.task.run, self.memory, {64: lambda *_, odd=odd: odd})
+            self.assertEqual(self.task.question, self.first)
+        self.done()
+
+    def test_go_without_an_answer_asks_once_more(self):
+        for _ in range(3):
+            self.assertEqual(self.task.go(self.memory), self.first)
+            self.assertEqual(self.task.go(self.memory, limit=0), self.first)
+        self.assertEqual(self.task.go(self.memory, answer=30), self.second)
+        self.done()
+
+    def test_an_answer_of_nothing_is_one(self):
+        self.task.go(self.memory)
+        self.task.go(self.memory, answer=0)
+        self.assertEqual(self.task.go(self.memory, 0), Asked(65, (0, 0, 0, 0, 0)))
+
+    def test_a_refusal_leaves_it_asked(self):
+        self.task.go(self.memory)
+        for wrong in (bytearray(3), bytearray(1), bytearray()):
+            for answer in (30, None):
+                with self.assertRaisesRegex(Error, "refused 43"):
+                    self.task.go(wrong, answer)
+                self.assertEqual(self.task.question, self.first)
+        self.assertRaises(TypeError, self.task.go, bytes(2))
+        self.assertRaises(ValueError, self.task.go, self.memory, 2**64)
+        self.done()
+
+    def test_a_helper_that_answers_for_itself(self):
+        """The number that it returns isn't taken for the answer of the next question."""
+        given = helpers()
+
+        def answers(key, *_):
+            if key == 3:
+                self.assertEqual(self.task.go(self.memory, 30), self.second)
+                return 999
+            return 10 * key
+
+        self.assertEqual(self.task.run(self.memory, {**given, 64: answers}), Executed(70, 32))
+
+    def test_another_thread_answers_meanwhile(self):
+        asked, answered = threading.Event(), threading.Event()
+
+        def waits(key, *_):
+            if key == 3:
+                asked.set()
+                answered.wait()
+                return 999
+            return 10 * key
+
+        def answer():
+            asked.wait()
+            self.task.go(self.memory, 30)
+            answered.set()
+
+        thread = threading.Thread(target=answer)
+        thread.start()
+        done = self.task.run(self.memory, {**helpers(), 64: waits})
+        thread.join()
+        self.assertEqual(done, Executed(70, 32))
+
+    def test_nothing_waits_in_what_is_closed_or_made_once_more(self):
+        self.task.go(self.memory)
+        self.task.__init__(ask(), 2)
+        self.assertIsNone(self.task.question)
+        self.task.go(self.memory)
+        self.task.close()
+        self.assertIsNone(self.task.question)
+        for call in (self.task.go, lambda memory: self.task.run(memory, helpers())):
+            with self.assertRaisesRegex(Error, "refused 47"):
+                call(self.memory)
 
 
 if __name__ == "__main__":

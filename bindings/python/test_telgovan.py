@@ -88,7 +88,8 @@ class Calls(Refusing):
         self.refused(11, 2, assemble, "exit\nhalt")
         self.refused(23, 0, Program, 0, assemble("ja -1"))
         self.refused(38, None, Program, 65537, assemble("exit"))
-        self.assertEqual(str(Error(23, 0)), "refused 23 at 0")
+        self.assertEqual(str(Error(23, 0)), f"refused 23 at slot 0: {Error(23).text}")
+        self.assertEqual(str(Error(11, 2)), f"refused 11 in line 2: {Error(11).text}")
 
     def test_reads_back_what_it_writes(self):
         text = disassemble(self.program.code)
@@ -253,7 +254,7 @@ class Jobs(Refusing):
         self.refused(63, None, Job((0, code)).play, buffer, 1)
         self.refused(64, None, Job((5, code)).play, buffer, 2)
         self.assertEqual(buffer, bytearray([7] * 4))
-        self.assertEqual(str(Error(31, 0, 1)), "refused 31 at 0 in program 1")
+        self.assertEqual(str(Error(31, 0, 1)), f"refused 31 at slot 0 of program 1: {Error(31).text}")
 
 
 def framed(text):

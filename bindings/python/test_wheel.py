@@ -11,13 +11,18 @@ import wheel_of
 
 
 class Wheel(unittest.TestCase):
-    def test_it_holds_the_module_and_records_each_file(self):
+    def test_it_holds_the_package_and_records_each_file(self):
         with tempfile.TemporaryDirectory() as room:
             name = wheel_of.build_wheel(room)
             self.assertEqual(name, f"telgovan-{wheel_of.stated('version')}-py3-none-any.whl")
             with zipfile.ZipFile(Path(room) / name) as archive:
                 files = {path: archive.read(path) for path in archive.namelist()}
-        self.assertEqual(files["telgovan.py"], (wheel_of.HERE / "telgovan.py").read_bytes())
+        modules = {path.name for path in (wheel_of.HERE / "telgovan").iterdir() if path.is_file()}
+        packed = {path.partition("/")[2] for path in files if path.startswith("telgovan/")}
+        self.assertEqual(packed, modules)
+        self.assertLessEqual({"__init__.py", "_refusals.py", "py.typed"}, modules)
+        for name in modules:
+            self.assertEqual(files[f"telgovan/{name}"], (wheel_of.HERE / "telgovan" / name).read_bytes())
         (record,) = (path for path in files if path.endswith("/RECORD"))
         rows = [line.split(",") for line in files[record].decode().splitlines()]
         self.assertEqual({row[0] for row in rows}, set(files))
@@ -38,7 +43,8 @@ class Wheel(unittest.TestCase):
                 self.assertEqual(archive.read(wheel_of.LIBRARY), b"object")
                 self.assertEqual(archive.read(f"{told}/licenses/LICENSE"), b"text")
                 self.assertIn(b"Root-Is-Purelib: false\n", archive.read(f"{told}/WHEEL"))
-        self.assertIn(wheel_of.LIBRARY, (wheel_of.HERE / "telgovan.py").read_text(encoding="utf-8"))
+        looked_for = (wheel_of.HERE / "telgovan/_library.py").read_text(encoding="utf-8")
+        self.assertIn(f'"../{wheel_of.LIBRARY}"', looked_for)
 
 
 if __name__ == "__main__":

@@ -1,5 +1,5 @@
-"""Builds the wheel of the module telgovan, which is one file: pip needs nothing else for it, and no
-network. `release/build` also puts the shared object into it."""
+"""Builds the wheel of the package telgovan: pip needs nothing else for it, and no network.
+`release/build` also puts the shared object into it."""
 
 import base64
 import hashlib
@@ -9,7 +9,7 @@ from pathlib import Path
 
 HERE = Path(__file__).resolve().parent
 TAG = "py3-none-any"
-# The folder beside the module in which telgovan.py looks for the shared object.
+# Beside the package, where telgovan/_library.py looks for the shared object.
 LIBRARY = "telgovan.libs/libtelgovan.so.0"
 
 
@@ -17,6 +17,12 @@ def stated(name):
     """A text of pyproject.toml."""
     text = (HERE / "pyproject.toml").read_text(encoding="utf-8")
     return re.search(rf'^{name} = "(.*)"$', text, re.MULTILINE).group(1)
+
+
+def package_files():
+    """The files of the package, by their paths in the wheel: its modules, and the mark that they are typed."""
+    paths = sorted([*HERE.glob("telgovan/*.py"), HERE / "telgovan/py.typed"])
+    return {f"telgovan/{path.name}": path.read_bytes() for path in paths}
 
 
 def recorded(path, content):
@@ -38,7 +44,7 @@ def write_wheel(folder, tag, more, date, version=None, words=None):
     head += ["Description-Content-Type: text/markdown"]
     about = [("Wheel-Version", "1.0"), ("Generator", name)]
     about += [("Root-Is-Purelib", str(tag == TAG).lower()), ("Tag", tag)]
-    files = {"telgovan.py": (HERE / "telgovan.py").read_bytes()}
+    files = package_files()
     for path, content in more.items():
         files[f"{told}/{path}" if path.startswith("licenses/") else path] = content
     files[f"{told}/METADATA"] = ("\n".join(head) + "\n\n" + readme).encode()
@@ -56,5 +62,5 @@ def write_wheel(folder, tag, more, date, version=None, words=None):
 
 
 def build_wheel(wheel_directory, config_settings=None, metadata_directory=None):
-    """Writes the wheel of the module alone into the folder, and gives its name, as pip asks for it."""
+    """Writes the wheel of the package alone into the folder, and gives its name, as pip asks for it."""
     return write_wheel(wheel_directory, TAG, {}, (1980, 1, 1, 0, 0, 0))

@@ -2,7 +2,7 @@
 
 use std::fmt;
 
-use crate::error::Error;
+use crate::error::{passed, Error};
 use crate::job::{Report, Task};
 use crate::raw;
 
@@ -37,26 +37,41 @@ pub use crate::raw::Sent;
 /// let code = telgovan::assemble("mov64 r0, 42\nexit")?;
 /// let report = Job::new(0, &code).play(9, &mut [], &mut tasks)?;
 /// desk.finish(handed.number, &report, &[], &tasks)?;
-/// assert_eq!(desk.fail(handed.number, 99).expect_err("it is over").number, 76);
+/// assert_eq!(desk.fail(handed.number, 99).expect_err("it is over").number(), Some(76));
 ///
 /// let mut room = [0; 4096];
 /// let sent = desk.replies(client, &mut room)?;
 /// assert_eq!(sent.left, 0);
 /// assert!(room[..sent.count as usize].ends_with(br#"{"job":1,"ok":true}"#));
-/// # Ok::<(), Box<dyn std::error::Error>>(())
+/// # Ok::<(), telgovan::Error>(())
 /// ```
+///
+/// It may go to another thread, but one call at a time uses it.
 pub struct Desk {
     handle: raw::Desk,
 }
 
-// `Send` is proved of the library's handle. `Sync` is not, and the pointer in it rules that out.
-unsafe impl Send for Desk {}
-
-/// A job that is handed over to the host: its number, and its object as JSON, which `bpfjobs run`
-/// reads.
+/// A job that is handed over to the host.
+///
+/// ```
+/// use telgovan::{Desk, HandedJob};
+///
+/// fn hand_over(desk: &mut Desk, run: impl Fn(&HandedJob)) -> Result<(), telgovan::Error> {
+///     while let Some(handed) = desk.next_job()? {
+///         println!("job {}: {} bytes of JSON", handed.number, handed.object.len());
+///         run(&handed);
+///     }
+///     Ok(())
+/// }
+///
+/// hand_over(&mut Desk::new()?, |_| unreachable!("no job waits"))?;
+/// # Ok::<(), telgovan::Error>(())
+/// ```
 #[derive(Clone, Debug, PartialEq, Eq)]
 pub struct HandedJob {
+    /// Its number, counted from 1.
     pub number: u64,
+    /// Its object as JSON, which `bpfjobs run` reads.
     pub object: String,
 }
 
@@ -67,16 +82,16 @@ impl Desk {
             handle: raw::Desk::none(),
         };
         // The library writes the handle alone.
-        told(unsafe { raw::telgovan_desk_new(&mut desk.handle) })?;
+        passed(unsafe { raw::telgovan_desk_new(&mut desk.handle) })?;
         Ok(desk)
     }
 
     /// Begins a conversation with a client, and answers the number of its connection, which is
-    /// given once.
+    /// given once. Refused for want of memory alone, by 99.
     pub fn connect(&mut self) -> Result<u64, Error> {
         let mut connection = 0;
         // The library writes the handle and the number alone.
-        told(unsafe { raw::telgovan_desk_connect(&mut self.handle, &mut connection) })?;
+        passed(unsafe { raw::telgovan_desk_connect(&mut self.handle, &mut connection) })?;
         Ok(connection)
     }
 
@@ -88,17 +103,17 @@ impl Desk {
     /// they are sent, so give few bytes at once.
     pub fn feed(&mut self, connection: u64, piece: &[u8]) -> Result<(), Error> {
         // The library reads the piece, and writes the handle alone.
-        told(unsafe {
+        passed(unsafe {
             raw::telgovan_desk_feed(&mut self.handle, connection, piece.as_ptr(), piece.len())
         })
     }
 
     /// Writes bytes that are to be sent on a connection into the room, as many as there is room
-    /// for. They count as sent.
+    /// for. They count as sent. 78 where there is no such connection.
     pub fn replies(&mut self, connection: u64, room: &mut [u8]) -> Result<Sent, Error> {
         let mut sent = Sent::default();
         // The library writes the handle, the room and what is told alone.
-        told(unsafe {
+        passed(unsafe {
             raw::telgovan_desk_replies(
                 &mut self.handle,
                 connection,
@@ -111,12 +126,14 @@ impl Desk {
     }
 
     /// Ends the conversation of a connection, and drops what was still to be sent. Its jobs stay.
+    /// 78 where there is no such connection.
     pub fn disconnect(&mut self, connection: u64) -> Result<(), Error> {
         // The library writes the handle alone.
-        told(unsafe { raw::telgovan_desk_disconnect(&mut self.handle, connection) })
+        passed(unsafe { raw::telgovan_desk_disconnect(&mut self.handle, connection) })
     }
 
-    /// The job of lowest number that waits, handed over once, if one waits.
+    /// The job of lowest number that waits, handed over once, if one waits. Refused for want of
+    /// memory alone, by 99.
     pub fn next_job(&mut self) -> Result<Option<HandedJob>, Error> {
         let mut handed = raw::Handed::default();
         let mut room = vec![0; 4096];
@@ -131,7 +148,7 @@ impl Desk {
                 )
             };
             if status != 65 {
-                told(status)?;
+                passed(status)?;
                 break;
             }
             room.resize(handed.length as usize, 0);
@@ -147,7 +164,9 @@ impl Desk {
     }
 
     /// Ends a job that was handed over with its report, the buffer as the job left it, and the
-    /// tasks that are to be told. 76 where it is over already, or wasn't handed over.
+    /// tasks that are to be told. 76 where it is over already, or wasn't handed over; 65 where a
+    /// task's program is over 65,535. A report that doesn't add up to the job's credit counts as
+    /// 82.
     pub fn finish(
         &mut self,
         number: u64,
@@ -187,7 +206,7 @@ impl Desk {
         tasks: &[Task],
     ) -> Result<(), Error> {
         // The library reads the report, the buffer and the tasks, and writes the handle alone.
-        told(unsafe {
+        passed(unsafe {
             raw::telgovan_desk_finish(
                 &mut self.handle,
                 number,
@@ -211,15 +230,5 @@ impl Drop for Desk {
 impl fmt::Debug for Desk {
     fn fmt(&self, f: &mut fmt::Formatter<'_>) -> fmt::Result {
         f.debug_struct("Desk").finish_non_exhaustive()
-    }
-}
-
-fn told(status: u32) -> Result<(), Error> {
-    match status {
-        0 => Ok(()),
-        number => Err(Error {
-            number,
-            place: None,
-        }),
     }
 }

@@ -1,9 +1,13 @@
-//! What `include/telgovan.h` declares, as far as this crate calls it.
+//! The declarations of `include/telgovan.h`, as far as this crate calls them.
+//!
+//! Of a handle the header says: one call at a time uses it, and a thread gives it to another by a
+//! lock, by a thread's start or join, or by a sequentially consistent atomic. So each is `Send`,
+//! and by itself none is `Sync`, which the pointer in it rules out.
 
 use std::ffi::c_void;
 use std::ptr;
 
-/// What is said of a program.
+/// The verdict of a program.
 #[repr(C)]
 #[derive(Clone, Copy, Default)]
 pub struct Verdict {
@@ -13,7 +17,7 @@ pub struct Verdict {
     pub has_slot: bool,
 }
 
-/// What was written into the caller's room.
+/// The text that was written into the caller's room.
 #[repr(C)]
 #[derive(Clone, Copy, Default)]
 pub struct Written {
@@ -23,7 +27,7 @@ pub struct Written {
     pub has_place: bool,
 }
 
-/// What a run came to.
+/// The result of a run.
 #[repr(C)]
 #[derive(Clone, Copy, Default)]
 pub struct Outcome {
@@ -95,6 +99,12 @@ pub struct Event {
     pub used: u32,
 }
 
+// One call at a time uses it, whichever thread makes it.
+unsafe impl Send for Program {}
+unsafe impl Send for TaskHandle {}
+unsafe impl Send for World {}
+unsafe impl Send for Desk {}
+
 /// A program of a job, as a piece of the code.
 #[repr(C)]
 #[derive(Clone, Copy, Debug)]
@@ -104,21 +114,37 @@ pub struct CodePiece {
     pub need: u32,
 }
 
-/// A task that ended: its argument, R0 at its end, its number, its program's place, the credit that
-/// it was given, and how much of what it kept it spent and returned.
+/// A task of a job that ended.
+///
+/// ```
+/// use telgovan::{assemble, Job, Task};
+///
+/// let mut tasks = [Task::default(); 4];
+/// let report = Job::new(0, &assemble("mov64 r0, 7\nexit")?).play(9, &mut [], &mut tasks)?;
+/// let root = Task { r0: 7, given: 9, spent: 2, returned: 7, ..Task::default() };
+/// assert_eq!(tasks[..report.tasks as usize], [root]);
+/// # Ok::<(), telgovan::Error>(())
+/// ```
 #[repr(C)]
 #[derive(Clone, Copy, Debug, Default, PartialEq, Eq)]
 pub struct Task {
+    /// The number that its parent gave it; the root's is 0.
     pub argument: u64,
+    /// R0 at its end.
     pub r0: u64,
+    /// Its number, counted from 0 in the order of the spawns.
     pub number: u32,
+    /// Its program's place in the job, counted from 0.
     pub program: u32,
+    /// The credit that it was given.
     pub given: u32,
+    /// The part of what it kept that it spent.
     pub spent: u32,
+    /// The part of what it kept that came back.
     pub returned: u32,
 }
 
-/// What a job came to.
+/// The result of a job.
 #[repr(C)]
 #[derive(Clone, Copy, Default)]
 pub struct Report {
@@ -130,6 +156,43 @@ pub struct Report {
     pub slot: u32,
     pub has_program: bool,
     pub has_slot: bool,
+}
+
+/// A handle of a job under way. Its fields are the library's.
+#[repr(C)]
+pub struct World {
+    held: *mut c_void,
+    opened: bool,
+}
+
+impl World {
+    /// A handle that holds none.
+    pub fn none() -> World {
+        World {
+            held: ptr::null_mut(),
+            opened: false,
+        }
+    }
+}
+
+/// The ends of a run of a job's task, beside 1, where it goes on.
+pub const SKIPPED: u32 = 0;
+pub const HAS_ENDED: u32 = 2;
+
+/// The result of a run of a job's task, and the sums of the job.
+#[repr(C)]
+#[derive(Clone, Copy, Default)]
+pub struct Step {
+    pub r0: u64,
+    pub status: u32,
+    pub came_to: u32,
+    pub count: u32,
+    pub tasks: u32,
+    pub held: u32,
+    pub returned: u32,
+    pub spent: u32,
+    pub used: u32,
+    pub is_complete: bool,
 }
 
 /// A handle of a desk. Its fields are the library's.
@@ -149,11 +212,24 @@ impl Desk {
     }
 }
 
-/// How many bytes of the replies were given, and how many are still to be sent.
+/// The replies that were given on a connection.
+///
+/// ```
+/// use telgovan::{Desk, Sent};
+///
+/// let mut desk = Desk::new()?;
+/// let client = desk.connect()?;
+/// desk.feed(client, b"\0\0\0\x02[]")?; // no request
+/// let mut room = [0; 16];
+/// assert_eq!(desk.replies(client, &mut room)?, Sent { count: 16, left: 10 });
+/// # Ok::<(), telgovan::Error>(())
+/// ```
 #[repr(C)]
 #[derive(Clone, Copy, Debug, Default, PartialEq, Eq)]
 pub struct Sent {
+    /// The number of bytes that were written into the room.
     pub count: u64,
+    /// The number of bytes that are still to be sent.
     pub left: u64,
 }
 
@@ -290,6 +366,44 @@ extern "C" {
         tasks_length: usize,
         report: *mut Report,
     ) -> u32;
+
+    pub fn telgovan_job_trace(
+        code: *const u8,
+        code_length: usize,
+        pieces: *const CodePiece,
+        pieces_length: usize,
+        credit: u32,
+        buffer: *const u8,
+        buffer_length: usize,
+        schedule: *const u32,
+        schedule_length: usize,
+        room: *mut u8,
+        room_length: usize,
+        written: *mut Written,
+    ) -> u32;
+
+    pub fn telgovan_world_open(
+        code: *const u8,
+        code_length: usize,
+        pieces: *const CodePiece,
+        pieces_length: usize,
+        credit: u32,
+        buffer: *const u8,
+        buffer_length: usize,
+        world: *mut World,
+        report: *mut Report,
+    ) -> u32;
+
+    pub fn telgovan_world_run(world: *mut World, number: u32, limit: u32, step: *mut Step) -> u32;
+
+    pub fn telgovan_world_buffer(
+        world: *mut World,
+        room: *mut u8,
+        room_length: usize,
+        written: *mut Written,
+    ) -> u32;
+
+    pub fn telgovan_world_drop(world: *mut World);
 
     pub fn telgovan_desk_new(desk: *mut Desk) -> u32;
 

@@ -25,7 +25,7 @@
 //! | a run's steps | aren't counted | are at most the program's cost, which each run is given |
 //! | an address of the host's memory | may be reached, where allowed | can't be written down |
 //! | R1, R2, R3 at entry | the memory's address | the memory, its length, and 0 |
-//!
+//! | a machine | one or many threads | the same; runs without helpers wait for each other |
 //! | a helper's id | any | 64 to 127, and it is registered before the program is set |
 //! | a helper's arguments | R1 to R5, whatever they hold | have to be set where it is called |
 //!
@@ -57,21 +57,27 @@
 //! let loops = &[0x05, 0, 0xff, 0xff, 0, 0, 0, 0];
 //! let error = EbpfVmNoData::new(Some(loops)).err().expect("refused");
 //! let refusal: &telgovan::Error = error.get_ref().and_then(|e| e.downcast_ref()).expect("told");
-//! assert_eq!((refusal.number, refusal.place), (23, Some(0)));
+//! assert_eq!((refusal.number(), refusal.slot()), (Some(23), Some(0)));
 //! ```
 
-use std::cell::RefCell;
 use std::fmt;
 use std::io::{Error, ErrorKind};
 use std::marker::PhantomData;
 
-use crate::hosted::{Event, Helpers, HostedTask};
+use crate::hosted::{Event, Helpers, Question};
 use crate::program::Program;
 
 /// A helper, as that crate has them.
+///
+/// ```
+/// use telgovan::rbpf::Helper;
+///
+/// let add: Helper = |a, b, _, _, _| a.wrapping_add(b);
+/// assert_eq!(add(40, 2, 0, 0, 0), 42);
+/// ```
 pub type Helper = fn(u64, u64, u64, u64, u64) -> u64;
 
-/// How many arguments a helper takes whose number isn't said.
+/// The number of arguments of a helper of which it isn't said.
 const ALL: u32 = 5;
 
 /// A helper that was registered: its id, how many arguments it takes, and the function.
@@ -90,10 +96,19 @@ struct Loaded {
 
 /// A machine for programs that work on a memory.
 ///
-/// It may go to another thread, and one thread at a time uses it.
+/// Threads may use it at once: runs of a program without helpers wait for each other.
+///
+/// ```
+/// use telgovan::{assemble, rbpf};
+///
+/// let prog = assemble("ldxh r0, [r1+2]\nbe16 r0\nexit").expect("a program");
+/// let vm = rbpf::EbpfVmRaw::with_need(4, Some(&prog))?;
+/// assert_eq!(vm.execute_program(&mut [0xaa, 0xbb, 0x11, 0x22])?, 0x1122);
+/// # Ok::<(), std::io::Error>(())
+/// ```
 pub struct EbpfVmRaw<'a> {
     need: u32,
-    program: RefCell<Option<Loaded>>,
+    program: Option<Loaded>,
     helpers: Vec<Registered>,
     // a machine of that crate borrows its program
     borrowed: PhantomData<&'a [u8]>,
@@ -109,7 +124,7 @@ impl<'a> EbpfVmRaw<'a> {
     pub fn with_need(need: u32, prog: Option<&'a [u8]>) -> Result<EbpfVmRaw<'a>, Error> {
         let mut vm = EbpfVmRaw {
             need,
-            program: RefCell::new(None),
+            program: None,
             helpers: Vec::new(),
             borrowed: PhantomData,
         };
@@ -133,7 +148,7 @@ impl<'a> EbpfVmRaw<'a> {
         } else {
             Program::verify(self.need, prog).map_err(refused)?
         };
-        *self.program.get_mut() = Some(Loaded { program, is_hosted });
+        self.program = Some(Loaded { program, is_hosted });
         Ok(())
     }
 
@@ -143,8 +158,8 @@ impl<'a> EbpfVmRaw<'a> {
         self.register_helper_with(key, ALL, function)
     }
 
-    /// As [`EbpfVmRaw::register_helper`], for a helper that takes so many arguments, 0 to 5: where it
-    /// is called, a program has set as many of R1 to R5, and the others are 0 for the function.
+    /// As [`EbpfVmRaw::register_helper`], for a helper that takes so many arguments, 0 to 5: where
+    /// it is called, a program has set as many of R1 to R5, and the others are 0 for the function.
     pub fn register_helper_with(
         &mut self,
         key: u32,
@@ -167,41 +182,40 @@ impl<'a> EbpfVmRaw<'a> {
     /// Runs the program once on the memory, in place, and answers R0.
     ///
     /// Refused without a program, and where the memory has under the need or over 65,536 bytes.
-    /// Then the memory is as it was. Refused too where a helper of this very run asks for it.
+    /// Then the memory is as it was.
     pub fn execute_program(&self, mem: &mut [u8]) -> Result<u64, Error> {
-        let Ok(mut loaded) = self.program.try_borrow_mut() else {
-            return Err(Error::new(ErrorKind::Other, "the machine runs"));
+        let loaded = match &self.program {
+            Some(loaded) => loaded,
+            None => return Err(Error::new(ErrorKind::Other, "no program was set")),
         };
-        let Some(loaded) = loaded.as_mut() else {
-            return Err(Error::new(ErrorKind::Other, "no program was set"));
-        };
-        let program = &mut loaded.program;
-        let credit = program.cost();
+        let program = &loaded.program;
         if loaded.is_hosted {
-            return self.run_hosted(program, mem);
+            return self.run_hosted(program, mem).map_err(refused);
         }
-        let done = program.execute(mem, 0, credit).map_err(refused)?;
+        let done = program.execute(mem, 0, program.cost()).map_err(refused)?;
         Ok(done.r0)
     }
 
     // Runs a program that may call helpers, each answered by its function.
-    fn run_hosted(&self, program: &mut Program, mem: &mut [u8]) -> Result<u64, Error> {
-        let credit = program.cost();
-        let mut task = HostedTask::start(program, credit, 0, mem.len()).map_err(refused)?;
-        let mut answer = 0;
+    fn run_hosted(&self, program: &Program, mem: &mut [u8]) -> Result<u64, crate::Error> {
+        let mut task = program.start(program.cost(), 0, mem.len())?;
+        let mut answer = None;
         loop {
-            match task.go(answer, mem, u32::MAX).map_err(refused)? {
+            match task.go(answer, mem, u32::MAX)? {
                 Event::AtLimit => {}
-                Event::Asks(question) => {
-                    let asked = |known: &&Registered| known.id == question.helper;
-                    let [a, b, c, d, e] = question.arguments;
-                    // one that the program was verified with stays registered
-                    let known = self.helpers.iter().find(asked);
-                    answer = known.map_or(0, |known| (known.function)(a, b, c, d, e));
-                }
+                Event::Asks(question) => answer = Some(self.answer(&question)?),
                 Event::Ended(done) => return Ok(done.r0),
             }
         }
+    }
+
+    // The answer of a helper's function. (One that the program was verified with stays registered.)
+    fn answer(&self, question: &Question) -> Result<u64, crate::Error> {
+        let asked = |known: &&Registered| known.id == question.helper;
+        let known = self.helpers.iter().find(asked);
+        let known = known.ok_or(crate::Error::Unanswered(*question))?;
+        let [a, b, c, d, e] = question.arguments;
+        Ok((known.function)(a, b, c, d, e))
     }
 }
 
@@ -214,6 +228,14 @@ impl fmt::Debug for EbpfVmRaw<'_> {
 }
 
 /// A machine for programs that have no memory but their stack.
+///
+/// ```
+/// use telgovan::{assemble, rbpf};
+///
+/// let prog = assemble("mov64 r0, 40\nadd64 r0, 2\nexit").expect("a program");
+/// assert_eq!(rbpf::EbpfVmNoData::new(Some(&prog))?.execute_program()?, 42);
+/// # Ok::<(), std::io::Error>(())
+/// ```
 #[derive(Debug)]
 pub struct EbpfVmNoData<'a> {
     parent: EbpfVmRaw<'a>,

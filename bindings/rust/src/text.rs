@@ -6,8 +6,19 @@ use crate::raw;
 /// The room of the longest program.
 const LONGEST: usize = 8 * 4096;
 
-/// The program that a source text says, as bytes.
+/// The program that a source text says, as bytes: 8 for each slot, at most 4,096 slots.
+///
+/// The refusals: 11 to 13 at their line, 1 without an instruction, 3 over 4,096 slots, 99 out of
+/// memory.
+///
+/// ```
+/// let code = telgovan::assemble("mov64 r0, 42\nexit")?;
+/// assert_eq!(code, [0xb7, 0, 0, 0, 42, 0, 0, 0, 0x95, 0, 0, 0, 0, 0, 0, 0]);
+/// assert_eq!(telgovan::assemble("exit\nhalt").expect_err("no word").line(), Some(2));
+/// # Ok::<(), telgovan::Error>(())
+/// ```
 pub fn assemble(source: &str) -> Result<Vec<u8>, Error> {
+    // The library reads the source, and writes the room and what is told alone.
     written(LONGEST, |room, told| unsafe {
         raw::telgovan_assemble(
             source.as_ptr(),
@@ -17,10 +28,20 @@ pub fn assemble(source: &str) -> Result<Vec<u8>, Error> {
             told,
         )
     })
+    .map_err(|(status, told)| Error::at_line(status, told.has_place, told.place))
 }
 
 /// The lines of the program that the bytes spell.
+///
+/// The refusals: 1 to 7, of which 4 to 7 stand at a slot, 99 out of memory.
+///
+/// ```
+/// let code = telgovan::assemble("mov64 r0, 42\nexit")?;
+/// assert_eq!(telgovan::disassemble(&code)?, "mov64 r0, 42\nexit\n");
+/// # Ok::<(), telgovan::Error>(())
+/// ```
 pub fn disassemble(code: &[u8]) -> Result<String, Error> {
+    // The library reads the code, and writes the room and what is told alone.
     let lines = written(1 << 14, |room, told| unsafe {
         raw::telgovan_disassemble(
             code.as_ptr(),
@@ -29,11 +50,12 @@ pub fn disassemble(code: &[u8]) -> Result<String, Error> {
             room.len(),
             told,
         )
-    })?;
+    })
+    .map_err(at_slot)?;
     Ok(String::from_utf8(lines).expect("lines are ASCII"))
 }
 
-/// Why a program of this need is refused, as text for whoever wrote it: the rule that it breaks, a
+/// Why a program of this need is refused, as text for whoever wrote it: what is wrong, a
 /// way that leads there, and what is known of each register there. `None` where it is accepted. A
 /// source text gives the line of the slot.
 ///
@@ -48,33 +70,23 @@ pub fn disassemble(code: &[u8]) -> Result<String, Error> {
 /// ```
 pub fn explain(need: u32, code: &[u8], source: Option<&str>) -> Result<Option<String>, Error> {
     let source = source.unwrap_or("");
-    let mut told = raw::Written::default();
-    let mut room = vec![0; 4096];
-    loop {
-        // The library reads the code and the source, and writes the room and what is told alone.
-        let status = unsafe {
-            raw::telgovan_explain(
-                need,
-                code.as_ptr(),
-                code.len(),
-                source.as_ptr(),
-                source.len(),
-                room.as_mut_ptr(),
-                room.len(),
-                &mut told,
-            )
-        };
-        match status {
-            0 => return Ok(None),
-            99 => return Err(Error::at(99, false, 0)),
-            _ => {}
-        }
-        let length = told.length as usize;
-        if length <= room.len() {
-            room.truncate(length);
-            return Ok(Some(String::from_utf8(room).expect("the text is UTF-8")));
-        }
-        room.resize(length, 0);
+    // The library reads the code and the source, and writes the room and what is told alone.
+    let (status, _, text) = roomy(4096, |room, told| unsafe {
+        raw::telgovan_explain(
+            need,
+            code.as_ptr(),
+            code.len(),
+            source.as_ptr(),
+            source.len(),
+            room.as_mut_ptr(),
+            room.len(),
+            told,
+        )
+    });
+    match status {
+        0 => Ok(None),
+        99 => Err(Error::of(99)),
+        _ => Ok(Some(String::from_utf8(text).expect("the text is UTF-8"))),
     }
 }
 
@@ -105,14 +117,14 @@ pub fn graph(need: u32, code: &[u8], source: Option<&str>) -> Result<String, Err
         )
     });
     if drawn.is_empty() {
-        return Err(Error::at(status, told.has_place, told.place));
+        return Err(at_slot((status, told)));
     }
     Ok(String::from_utf8(drawn).expect("the drawing is UTF-8"))
 }
 
 /// The steps of a program's run on this memory, which isn't changed: a JSON object on a line each,
-/// with the slot and the text of the instruction, the registers and the bytes that changed, and what
-/// the run has used. A source text gives the lines.
+/// with the slot and the text of the instruction, the registers and the bytes that changed, and
+/// what the run has used. A source text gives the lines.
 ///
 /// The refusals are those of the verdict, and of [`Program::execute`](crate::Program::execute).
 ///
@@ -150,7 +162,8 @@ pub fn trace(
             room.len(),
             told,
         )
-    })?;
+    })
+    .map_err(at_slot)?;
     Ok(String::from_utf8(steps).expect("the steps are UTF-8"))
 }
 
@@ -158,26 +171,33 @@ pub fn trace(
 /// the size that the call asks for.
 fn roomy(
     size: usize,
-    call: impl Fn(&mut [u8], &mut raw::Written) -> u32,
+    mut call: impl FnMut(&mut [u8], &mut raw::Written) -> u32,
 ) -> (u32, raw::Written, Vec<u8>) {
     let mut room = vec![0; size];
     let mut told = raw::Written::default();
-    let mut status = call(&mut room, &mut told);
-    if status == 65 {
-        room.resize(told.length as usize, 0);
-        status = call(&mut room, &mut told);
+    loop {
+        let status = call(&mut room, &mut told);
+        let length = told.length as usize;
+        if length <= room.len() {
+            room.truncate(length);
+            return (status, told, room);
+        }
+        room.resize(length, 0);
     }
-    room.truncate(told.length as usize);
-    (status, told, room)
 }
 
-/// What a call writes.
-fn written(
+/// The bytes that a call writes, or its status and what it tells where it is refused.
+pub(crate) fn written(
     size: usize,
-    call: impl Fn(&mut [u8], &mut raw::Written) -> u32,
-) -> Result<Vec<u8>, Error> {
+    call: impl FnMut(&mut [u8], &mut raw::Written) -> u32,
+) -> Result<Vec<u8>, (u32, raw::Written)> {
     match roomy(size, call) {
         (0, _, room) => Ok(room),
-        (status, told, _) => Err(Error::at(status, told.has_place, told.place)),
+        (status, told, _) => Err((status, told)),
     }
+}
+
+/// The refusal of a program, whose place is a slot.
+fn at_slot((status, told): (u32, raw::Written)) -> Error {
+    Error::at_slot(status, told.has_place, told.place)
 }

@@ -1,11 +1,9 @@
 //! The library's calls, through the wrapper.
 
-use std::sync::mpsc;
+use std::sync::{mpsc, Arc};
 use std::thread;
 
-use telgovan::{
-    assemble, disassemble, graph, trace, Error, Executed, Job, JobError, Piece, Program, Task,
-};
+use telgovan::{assemble, disassemble, graph, trace, Error, Executed, Job, Piece, Program, Task};
 
 fn code(source: &str) -> Vec<u8> {
     assemble(source).expect("a program")
@@ -13,6 +11,10 @@ fn code(source: &str) -> Vec<u8> {
 
 fn program(need: u32, source: &str) -> Program {
     Program::verify(need, &code(source)).expect("accepted")
+}
+
+fn number(error: Error) -> u8 {
+    error.number().expect("a refusal")
 }
 
 fn filter() -> Program {
@@ -30,7 +32,7 @@ fn packet(port: u8) -> [u8; 64] {
 
 #[test]
 fn runs_the_filter() {
-    let mut filter = filter();
+    let filter = filter();
     assert_eq!((filter.need(), filter.cost()), (40, 16));
     for _ in 0..3 {
         assert_eq!(
@@ -43,8 +45,8 @@ fn runs_the_filter() {
 
 #[test]
 fn refuses_what_is_too_little() {
-    let mut filter = filter();
-    let number = |result: Result<Executed, Error>| result.expect_err("refused").number;
+    let filter = filter();
+    let number = |result: Result<Executed, Error>| number(result.expect_err("refused"));
     assert_eq!(number(filter.execute(&mut packet(53), 0, 15)), 42);
     assert_eq!(number(filter.execute(&mut [0; 39], 0, 16)), 43);
     assert_eq!(number(filter.execute(&mut vec![0; 65_537], 0, 16)), 65);
@@ -80,12 +82,12 @@ fn runs_pieces_in_turn() {
     assert_eq!(r0s, [Some(1), Some(0), Some(1), None, None]);
     assert!(told[3..]
         .iter()
-        .all(|run| run.expect_err("no such piece").number == 43));
+        .all(|run| number(run.expect_err("no such piece")) == 43));
 }
 
 #[test]
 fn leaves_what_a_run_leaves() {
-    let mut store = program(1, "stxb [r1+0], r3\nmov64 r0, 0\nexit");
+    let store = program(1, "stxb [r1+0], r3\nmov64 r0, 0\nexit");
     let mut memory = [9, 9, 9];
     let piece = |start, argument| Piece {
         start,
@@ -98,33 +100,70 @@ fn leaves_what_a_run_leaves() {
 
 #[test]
 fn tells_where_a_refusal_stands() {
-    assert_eq!(
-        assemble("exit\nhalt"),
-        Err(Error {
-            number: 11,
-            place: Some(2)
-        })
-    );
+    let halt = Error::AtLine {
+        number: 11,
+        line: 2,
+    };
+    assert_eq!(assemble("exit\nhalt"), Err(halt));
     let refusal = |need, source| Program::verify(need, &code(source)).expect_err("refused");
-    assert_eq!(
-        refusal(0, "ja -1"),
-        Error {
-            number: 23,
-            place: Some(0)
-        }
-    );
-    assert_eq!(
-        refusal(65_537, "ja -1"),
-        Error {
-            number: 38,
-            place: None
-        }
-    );
-    let told = refusal(0, "ja -1").to_string();
-    assert_eq!(
-        told,
-        "23: a path of jumps leads back to where it began at 0"
-    );
+    let goes_back = Error::AtSlot {
+        number: 23,
+        slot: 0,
+    };
+    assert_eq!(refusal(0, "ja -1"), goes_back);
+    let too_large = Error::Refused { number: 38 };
+    assert_eq!(refusal(65_537, "ja -1"), too_large);
+    for (error, number, slot, line) in [
+        (halt, 11, None, Some(2)),
+        (goes_back, 23, Some(0), None),
+        (too_large, 38, None, None),
+    ] {
+        assert_eq!(error.number(), Some(number));
+        assert_eq!(
+            (error.slot(), error.line(), error.program()),
+            (slot, line, None)
+        );
+    }
+}
+
+#[test]
+fn a_refusal_has_words() {
+    let halt = Error::AtLine {
+        number: 11,
+        line: 2,
+    };
+    let told = format!("refused 11 in line 2: {}", halt.text());
+    assert_eq!(halt.to_string(), told);
+    let goes_back = Error::AtSlot {
+        number: 23,
+        slot: 0,
+    };
+    let told = format!("refused 23 at slot 0: {}", goes_back.text());
+    assert_eq!(goes_back.to_string(), told);
+    let unset = Error::InProgram {
+        number: 31,
+        program: 1,
+        slot: Some(0),
+    };
+    let told = format!("refused 31 at slot 0 of program 1: {}", unset.text());
+    assert_eq!(unset.to_string(), told);
+    // one of a later version
+    let later = Error::Refused { number: 250 };
+    assert_eq!(later.to_string(), "refused 250: an unknown refusal");
+    assert!(!later.advice().is_empty());
+    let own: Box<dyn std::error::Error + Send + Sync> = halt.into();
+    assert_eq!(own.downcast_ref(), Some(&halt));
+}
+
+#[test]
+fn each_refusal_that_a_call_answers_has_words() {
+    let answered = (1..=7).chain(11..=13).chain(21..=25).chain(31..=38);
+    let answered = answered.chain([41, 42, 43, 44, 45, 47, 48]).chain(61..=65);
+    for number in answered.chain([71, 76, 78, 99]) {
+        let error = Error::Refused { number };
+        assert_ne!(error.text(), Error::Refused { number: 250 }.text());
+        assert!(!error.advice().is_empty());
+    }
 }
 
 #[test]
@@ -133,18 +172,12 @@ fn reads_back_what_it_writes() {
     let text = disassemble(&bytes).expect("a listing");
     assert_eq!(text.lines().count(), 16);
     assert_eq!(code(&text), bytes);
-    assert_eq!(
-        disassemble(&[0; 7]),
-        Err(Error {
-            number: 2,
-            place: None
-        })
-    );
+    assert_eq!(disassemble(&[0; 7]), Err(Error::Refused { number: 2 }));
     // a text that is longer than the first room, and bytes that no room is taken for
     let longest = code(&format!("{}exit", "mov64 r0, -2147483648\n".repeat(4095)));
     assert_eq!(code(&disassemble(&longest).expect("a listing")), longest);
-    let number = disassemble(&vec![0; 1 << 24]).expect_err("too long").number;
-    assert_eq!(number, 3);
+    let refusal = disassemble(&vec![0; 1 << 24]).expect_err("too long");
+    assert_eq!(number(refusal), 3);
 }
 
 #[test]
@@ -156,7 +189,7 @@ fn draws_a_graph() {
     assert!(drawn.contains("slot 1, line 2: ldxb r0, [r1+0]"));
     let refused = graph(0, &code(source), None).expect("a graph");
     assert!(refused.contains("<font color=\"red\">slot 1: ldxb r0, [r1+0]</font>"));
-    let number = |need, code: &[u8]| graph(need, code, None).expect_err("no graph").number;
+    let number = |need, code: &[u8]| number(graph(need, code, None).expect_err("no graph"));
     assert_eq!(number(0, &code("ja -1")), 23);
     assert_eq!(number(65_537, &code("exit")), 38);
     let ladder = format!("mov64 r0, 0\n{}exit", "jeq r0, 0, +0\n".repeat(500));
@@ -176,7 +209,7 @@ fn traces_a_run() {
     );
     let refused = |need, memory: &[u8], credit| {
         let error = trace(need, &adds, None, memory, 0, credit).expect_err("refused");
-        (error.number, error.place)
+        (number(error), error.slot())
     };
     assert_eq!(refused(0, &[40], 4), (33, Some(0)));
     assert_eq!(refused(1, &[40], 3), (42, None));
@@ -187,10 +220,10 @@ fn traces_a_run() {
 
 #[test]
 fn threads_share_a_program() {
-    let mut first = filter();
+    let first = filter();
     let owners: Vec<Program> = (0..4).map(|_| first.share().expect("room")).collect();
     drop(first);
-    let run = |mut owner: Program| move || owner.execute(&mut packet(53), 0, 16).expect("ran").r0;
+    let run = |owner: Program| move || owner.execute(&mut packet(53), 0, 16).expect("ran").r0;
     let threads: Vec<_> = owners
         .into_iter()
         .map(|owner| thread::spawn(run(owner)))
@@ -207,7 +240,7 @@ fn a_program_goes_through_a_channel() {
     let (sender, receiver) = mpsc::channel();
     sender.send(filter()).expect("sent");
     let other = thread::spawn(move || receiver.recv().expect("received"));
-    let mut back = other.join().expect("joined");
+    let back = other.join().expect("joined");
     assert_eq!(back.execute(&mut packet(53), 0, 16).expect("ran").r0, 1);
 }
 
@@ -260,22 +293,49 @@ fn tells_why_a_job_is_refused() {
         assert_eq!(buffer, [7; 4]);
         error
     };
-    let at = |program, number, place| JobError {
-        program,
-        error: Error { number, place },
+    let of_job = |number| Error::Refused { number };
+    assert_eq!(refusal(Job::new(0, &exit), 1), of_job(63));
+    assert_eq!(refusal(Job::new(5, &exit), 2), of_job(64));
+    assert_eq!(refusal(Job::new(0, &exit), 1 << 31), of_job(65));
+    let second = Error::InProgram {
+        number: 31,
+        program: 1,
+        slot: Some(0),
     };
-    assert_eq!(refusal(Job::new(0, &exit), 1), at(None, 63, None));
-    assert_eq!(refusal(Job::new(5, &exit), 2), at(None, 64, None));
-    assert_eq!(refusal(Job::new(0, &exit), 1 << 31), at(None, 65, None));
-    assert_eq!(
-        refusal(Job::new(0, &exit).program(0, &unset), 2),
-        at(Some(1), 31, Some(0))
-    );
+    assert_eq!(refusal(Job::new(0, &exit).program(0, &unset), 2), second);
+    let places = (second.number(), second.program(), second.slot());
+    assert_eq!(places, (Some(31), Some(1), Some(0)));
     let many = (0..16).fold(Job::new(0, &exit), |job, _| job.program(0, &exit));
-    assert_eq!(refusal(many, 2), at(None, 62, None));
-    let told = at(Some(1), 31, Some(0)).to_string();
-    assert_eq!(
-        told,
-        "program 1: 31: a register is read that may be unset at 0"
-    );
+    assert_eq!(refusal(many, 2), of_job(62));
+}
+
+fn for_threads<T: Send + Sync + Clone + 'static>(_: &T) {}
+
+#[test]
+fn threads_use_one_program() {
+    let filter = filter();
+    for_threads(&filter);
+    let answers: Vec<u64> = thread::scope(|scope| {
+        let run = || filter.execute(&mut packet(53), 0, 16).expect("ran").r0;
+        let threads: Vec<_> = (0..4).map(|_| scope.spawn(run)).collect();
+        let joined = threads.into_iter().map(|it| it.join().expect("joined"));
+        joined.collect()
+    });
+    assert_eq!(answers, [1; 4]);
+    let shared = Arc::new(filter);
+    let other = Arc::clone(&shared);
+    let ran = thread::spawn(move || other.execute(&mut packet(53), 0, 16).expect("ran").r0);
+    assert_eq!(ran.join().expect("joined"), 1);
+    assert_eq!(shared.execute(&mut packet(54), 0, 16).expect("ran").r0, 0);
+}
+
+#[test]
+fn a_clone_outlives_its_program() {
+    let first = filter();
+    let clones = vec![first.clone(); 3];
+    drop(first);
+    for own in clones {
+        assert_eq!((own.need(), own.cost()), (40, 16));
+        assert_eq!(own.execute(&mut packet(53), 0, 16).expect("ran").r0, 1);
+    }
 }

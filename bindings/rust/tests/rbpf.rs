@@ -1,5 +1,6 @@
 //! The machines by the names of the crate rbpf, as that crate's own examples use them.
 
+use std::cell::RefCell;
 use std::io;
 use std::thread;
 
@@ -9,9 +10,9 @@ fn code(source: &str) -> Vec<u8> {
     assemble(source).expect("a program")
 }
 
-fn number(error: io::Error) -> Option<u32> {
+fn number(error: io::Error) -> Option<u8> {
     let refusal = error.get_ref()?.downcast_ref::<telgovan::Error>()?;
-    Some(refusal.number)
+    refusal.number()
 }
 
 #[test]
@@ -102,6 +103,53 @@ fn a_machine_goes_to_a_thread() {
         thread.join().expect("joined")
     });
     assert_eq!(ran, 42);
+}
+
+#[test]
+fn threads_use_one_machine() {
+    let prog = code("mov64 r0, 42\nexit");
+    let asks = code("mov64 r1, 1\nmov64 r2, 2\ncall 64\nexit");
+    let plain = rbpf::EbpfVmNoData::new(Some(&prog)).expect("accepted");
+    let mut hosted = rbpf::EbpfVmNoData::new(None).expect("a machine");
+    hosted.register_helper_with(64, 2, add).expect("an id");
+    hosted.set_program(&asks).expect("accepted");
+    thread::scope(|scope| {
+        for _ in 0..4 {
+            scope.spawn(|| assert_eq!(plain.execute_program().expect("ran"), 42));
+            scope.spawn(|| assert_eq!(hosted.execute_program().expect("ran"), 3));
+        }
+    });
+}
+
+thread_local! {
+    /// A machine whose helper runs it again, for a smaller number.
+    static COUNTS: RefCell<Option<rbpf::EbpfVmRaw<'static>>> = const { RefCell::new(None) };
+}
+
+fn run_again(left: u64, _: u64, _: u64, _: u64, _: u64) -> u64 {
+    if left == 0 {
+        return 0;
+    }
+    let mem = &mut [left as u8 - 1];
+    COUNTS
+        .with(|vm| {
+            vm.borrow()
+                .as_ref()
+                .expect("a machine")
+                .execute_program(mem)
+        })
+        .expect("ran")
+}
+
+#[test]
+fn a_helper_runs_its_own_machine() {
+    let prog = code("ldxb r1, [r1+0]\ncall 64\nadd64 r0, 1\nexit");
+    let prog: &'static [u8] = Box::leak(prog.into_boxed_slice());
+    let mut vm = rbpf::EbpfVmRaw::with_need(1, None).expect("a machine");
+    vm.register_helper_with(64, 1, run_again).expect("an id");
+    vm.set_program(prog).expect("accepted");
+    COUNTS.with(|it| *it.borrow_mut() = Some(vm));
+    assert_eq!(run_again(5, 0, 0, 0, 0), 5);
 }
 
 fn add(a: u64, b: u64, c: u64, d: u64, e: u64) -> u64 {
