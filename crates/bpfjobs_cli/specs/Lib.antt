@@ -12,6 +12,7 @@ pub mod Hexadecimal
 pub mod Programs
 pub mod Jobs
 pub mod Runs
+pub mod ObjectFaults
 pub mod Performing
 pub mod Shown
 pub mod Lines

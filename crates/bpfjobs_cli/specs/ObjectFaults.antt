@@ -4,8 +4,8 @@ use Rattle.serde_json.specs.Data.{Data}
 use Rattle.sessions.specs.Answers.{ObjectAnswer}
 use Rattle.sessions.specs.Grammar.{ReadsJson, object_from}
 use Rattle.sessions.specs.declared.request.JobObject.{JobObject}
-use Rattle.bpfjobs_cli.specs.declared.object_fault.ObjectFault.{ObjectFault}
-use Rattle.bpfjobs_cli.specs.declared.object_fault.ObjectFault.TheVariants.{NotJson, Wrong}
+use Rattle.bpfjobs_cli.specs.declared.object_faults.ObjectFault.{ObjectFault}
+use Rattle.bpfjobs_cli.specs.declared.object_faults.ObjectFault.TheVariants.{NotJson, Wrong}
 
 -- the text says a job, with a schedule where one is wanted
 abbrev pub IsJobText : Bool → List ℕ → Type 0

@@ -46,12 +46,12 @@ pub use hexadecimal::{Unread, read_hexadecimal};
 // jobs, as JSON
 mod declined;
 mod job;
-mod object_fault;
+mod object_faults;
 mod run;
 
 pub use declined::{JobDeclined, read_job};
 pub use job::answer_play;
-pub use object_fault::{ObjectFault, ObjectPart, object_fault};
+pub use object_faults::{ObjectFault, ObjectPart, object_fault};
 pub use run::answer_run;
 
 // what is shown of a job: the job that the input says, as the definitions have it, its steps and its

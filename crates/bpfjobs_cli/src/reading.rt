@@ -394,8 +394,8 @@ fn input_of<'a>(matches: &ArgMatches<'a>) -> Option<&'a str>
 }
 
 /// The command that the words ask for, the file that it reads, and what is shown beside its answer.
-/// The first word is the program's name. The subcommand, its numbers and paths are those that clap's matches of the words
-/// give. Words that clap takes are refused for want of memory, and where a server's options name no
+/// The first word is the program's name. The subcommand, its numbers and paths are those that clap's
+/// matches of the words give. Words that clap takes are refused for want of memory, and where a server's options name no
 /// endpoint, or don't go with it.
 pub fn request<'a>(alloc: Global, words: &'a [String]) -> Result<CommandRequest<'a>, Usage>
     ensures ok { IfOk result (λ request. (name : Text) × (rows : List Row)

@@ -55,7 +55,7 @@ Writes the buffer and the credit that is held, returned, spent and used, or a re
 Status: 0 played, 1 refused, 3 where input or output fails.
 
 Example:
-  $ bpfjobs play < examples/answer.json
+  $ bpfjobs play examples/answer.json
   {\"buffer\":\"\",\"complete\":true,\"held\":0,\"ok\":true,\"returned\":0,\"spent\":2,\"used\":2}";
 
 pub(crate) const TRACE: &str =
@@ -70,7 +70,7 @@ Writes the buffer, the credit that was returned and spent, and each task, or a r
 Status: 0 run, 1 refused, 3 where input or output fails.
 
 Example:
-  $ bpfjobs run --workers 2 < examples/spawn.json
+  $ bpfjobs run --workers 2 examples/spawn.json
   {\"buffer\":\"0000000009000000\",\"ok\":true,\"returned\":7,\"spent\":27,\"tasks\":[..]}";
 
 pub(crate) const WORKERS: &str = "Threads that run the tasks of a job, 1 to 16";
