@@ -106,7 +106,7 @@ class Verdicts(InBrowser):
         self.assertEqual(self.text("verdict"), "refused 33: access out of the part at slot 2")
         self.assertEqual(self.marked_lines(), [5])
         told = self.text("explained").split("\n")
-        self.assertEqual(told[0], "rule: an access lies within the bytes of the part that the program needs")
+        self.assertEqual(told[0], "why: an access may leave the bytes of the part that the program needs")
         self.assertEqual(told[1:4], ["slot 2, line 5: ldxb r0, [r1+0]", "least need here: 16", "way: 0 1 2"])
         bad = "[...document.querySelectorAll('#flow .bad')].map((one) => one.textContent.trim())"
         self.assertEqual(self.tab.evaluate(bad), ["2  ldxb r0, [r1+0]"])
@@ -114,7 +114,7 @@ class Verdicts(InBrowser):
 
     def test_a_line_that_says_nothing_known(self):
         self.choose("refused: no such word")
-        self.assertEqual(self.text("verdict"), "refused 11 in line 2: an unknown word")
+        self.assertEqual(self.text("verdict"), "refused 11 in line 2: no instruction has this word")
         self.assertEqual(self.text("explained"), "mul65 r0, 2")
         self.assertEqual(self.marked_lines(), [2])
         self.picture("no_such_word")
@@ -189,10 +189,10 @@ class Runs(InBrowser):
         self.choose("Internet checksum")
         self.fill(credit="17")
         self.click("run")
-        self.assertEqual(self.text("verdict"), "refused 42: the credit is under the cost")
+        self.assertEqual(self.text("verdict"), "refused 42: the credit is under the program's cost")
         self.fill(credit="18", memory="00*9")
         self.click("run")
-        self.assertEqual(self.text("verdict"), "refused 43: the memory is shorter than the need")
+        self.assertEqual(self.text("verdict"), "refused 43: the memory is too short, or not as long as at the start")
 
 
 class Steps(InBrowser):

@@ -5,12 +5,6 @@
 const USUAL = { credit: "0", buffer: "", order: "turn", seed: "1", schedule: "" };
 const MOST_WRITTEN = 6000; // letters of a schedule in an address
 const OTHERS = 4; // other schedules whose answers are shown
-const JOB_WORDS = {
-    43: "a piece isn't there", 61: "no program", 62: "more than 16 programs",
-    63: "the credit is under the cost of the root", 64: "the buffer is shorter than the need of the root",
-    65: "the credit or the buffer is over its limit", 99: "no memory",
-};
-
 let job_run = null; // the job under way
 let chosen = 0; // the number of the task that is chosen
 
@@ -83,7 +77,7 @@ function assembled(programs) {
         const code = library.assemble(source);
         if (code.status) {
             const line = code.place === null ? "" : ` in line ${code.place}`;
-            throw new Error(`program ${place}: refused ${code.status}${line}: ${WORDS[code.status] ?? ""}`);
+            throw new Error(`program ${place}: refused ${code.status}${line}: ${words_of(code.status)}`);
         }
         const bytes = need.trim();
         if (!/^[0-9]{1,10}$/.test(bytes) || Number(bytes) >= 2 ** 32) {
@@ -94,7 +88,7 @@ function assembled(programs) {
 }
 
 function refusal_text({ status, program, slot }, programs) {
-    if (program === null) return `refused ${status}: ${JOB_WORDS[status] ?? ""}`;
+    if (program === null) return `refused ${status}: ${words_of(status)}`;
     const { need, code, source } = programs[program];
     const said = slot === null && status === 38 ? "" : library.explain(need, code, source).text.split("\n")[0];
     return `program ${program}: ${said || `refused ${status}`}`;

@@ -33,7 +33,7 @@ pub fn disassemble(code: &[u8]) -> Result<String, Error> {
     Ok(String::from_utf8(lines).expect("lines are ASCII"))
 }
 
-/// Why a program of this need is refused, as text for whoever wrote it: the rule that it breaks, a
+/// Why a program of this need is refused, as text for whoever wrote it: what is wrong, a
 /// way that leads there, and what is known of each register there. `None` where it is accepted. A
 /// source text gives the line of the slot.
 ///
