@@ -5,6 +5,7 @@ pub mod Arriving
 pub mod Needs
 pub mod RefusalTexts
 pub mod RefusalWords
+pub mod Reports
 pub mod Texts
 pub mod Refused
 pub mod Told

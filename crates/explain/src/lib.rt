@@ -13,9 +13,11 @@ pub use faults::explain_all;
 
 // what is wrong and what to do, by the number of a refusal
 mod refusal_texts;
+mod report;
 mod wording;
 
 pub use refusal_texts::{refusal_help, refusal_text};
+pub use report::{LineMark, RefusalReport, report_text};
 pub use wording::refusal_words;
 
 // what leads to a slot, and what is known there
