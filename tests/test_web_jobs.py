@@ -381,9 +381,9 @@ class Verdicts(InJob):
         for programs, credit, buffer, told in (
                 ([(0, answer)], 1, "", "refused 63: the credit is under the cost of the root"),
                 ([(1, answer)], 2, "", "refused 64: the buffer is shorter than the need of the root"),
-                ([(0, answer)], 2**31, "", "refused 65: the credit or the buffer is over its limit"),
-                ([(0, answer)], 2, "00*65537", "refused 65: the credit or the buffer is over its limit"),
-                ([(0, answer), (0, "mov65 r0, 0\n")], 2, "", "program 1: refused 11 in line 1: an unknown word"),
+                ([(0, answer)], 2**31, "", "refused 65: a length or a credit is over its limit, or a room is too short"),
+                ([(0, answer)], 2, "00*65537", "refused 65: a length or a credit is over its limit, or a room is too short"),
+                ([(0, answer), (0, "mov65 r0, 0\n")], 2, "", "program 1: refused 11 in line 1: no instruction has this word"),
                 ([(0, answer), (0, "mov64 r0, 0\n")], 2, "", "program 1: refused 24: "),
                 ([(0, answer), ("x", answer)], 2, "", "program 1: the need is a number from 0 to 4294967295"),
                 ([(0, answer), (65537, answer)], 2, "", "program 1: refused 38"),
