@@ -2,7 +2,7 @@
 //! --help` tells how.
 #![tactic(auto)]
 
-ghost use Rattle.std.specs.Prelude.{◌≤◌};
+ghost use Rattle.std.specs.Prelude.{◌≡◌, ◌≤◌};
 ghost use Rattle.machine_model.specs.Limits.{max_credit};
 
 use bpfjobs_cli::{Answer, FAILED, UNREAD, print_usage, tell, words};
@@ -116,6 +116,22 @@ fn written<R: Files + Eprint>(rt: &R, path: &str, text: &str) -> bool {
     }
 }
 
+// How the program is tried.
+fn asked_of<'a>(request: &RunArguments<'a>, is_coloured: bool) -> RunOptions<'a>
+    ensures { result.credit ≡ request.now.credit }
+{
+    RunOptions {
+        file: request.file,
+        form: form_of(request.file),
+        need: request.need,
+        arg: request.arg,
+        credit: request.credit,
+        explains: request.explains,
+        explains_all: request.explains_all,
+        is_coloured,
+    }
+}
+
 // Tries the program on its memory, prints what it comes to, and gives the status.
 fn tried<R: Files + Print + Eprint + AllocGlobal>(
     rt: &R,
@@ -128,16 +144,7 @@ fn tried<R: Files + Print + Eprint + AllocGlobal>(
     let Some(input) = contents(rt, request.file) else {
         return FAILED;
     };
-    let asked = RunOptions {
-        file: request.file,
-        form: form_of(request.file),
-        need: request.need,
-        arg: request.arg,
-        credit: request.credit,
-        explains: request.explains,
-        explains_all: request.explains_all,
-        is_coloured,
-    };
+    let asked = asked_of(request, is_coloured);
     let lent: Option<&[u8]> = match &memory {
         Some(bytes) => Some(bytes),
         None => None,

@@ -1,6 +1,7 @@
 //! What is known of a program that the verifier refuses, and what helps, as notes of a report.
 
 use crate::answering::RunOptions;
+use crate::form::FileForm;
 use crate::helping::{general_help, help_of_bytes};
 use explain::{AbsText, Enough, Explanation, RefusalContext, line_at, lines_of, refusal_words};
 use flow_graph::FlowFault;
@@ -112,7 +113,13 @@ fn jump_back(placed: &[Placed], slot: u32) -> Option<(usize, u32)> {
 }
 
 // What helps with a loop whose lowest slot is this one.
-fn help_of_loop(alloc: Global, input: &[u8], code: &[u8], slot: u32) -> Result<String, NoMemory> {
+fn help_of_loop(
+    alloc: Global,
+    form: FileForm,
+    input: &[u8],
+    code: &[u8],
+    slot: u32,
+) -> Result<String, NoMemory> {
     let general = general_help(23);
     let placed = match decode(alloc, code) {
         Ok(placed) => placed,
@@ -122,6 +129,9 @@ fn help_of_loop(alloc: Global, input: &[u8], code: &[u8], slot: u32) -> Result<S
     let Some((index, from)) = jump_back(&placed, slot) else {
         return Ok(format!(in alloc; "{general}")?);
     };
+    if form != FileForm::Text {
+        return Ok(format!(in alloc; "slot {from} jumps back: {general}")?);
+    }
     match line_at(&lines_of(alloc, input)?, index) {
         Some(line) => Ok(format!(in alloc; "line {} jumps back: {general}", line.number)?),
         None => Ok(format!(in alloc; "slot {from} jumps back: {general}")?),
@@ -160,7 +170,7 @@ fn help_of(
             Some(known) => help_of_need(alloc, known.enough),
             None => help_of_need(alloc, None),
         },
-        Refusal::Flow(FlowFault::Cycle(slot)) => help_of_loop(alloc, input, code, slot),
+        Refusal::Flow(FlowFault::Cycle(slot)) => help_of_loop(alloc, asked.form, input, code, slot),
         Refusal::BadKind(_) if is_at_exit(why) => Ok(format!(in alloc;
             "r0 holds a pointer at `exit`: end with a number there"
         )?),
