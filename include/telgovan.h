@@ -2,16 +2,19 @@
  *
  * bindings/build makes libtelgovan.a and libtelgovan.so, bindings/install puts them in place.
  *
- * Each answer has a status: 0, or the number of the refusal, of docs/refusals.md. No thread is
- * started and no lock is taken. A call touches nothing but what it is lent, and calls nothing of C
- * but malloc, realloc and free, which are of one allocator. Any threads may call at once, each with
- * memory and handles of its own.
+ * Each answer has a status: 0, or the number of the refusal (enum telgovan_status), of
+ * docs/refusals.md. No thread is started and no lock is taken. A call touches nothing but what it
+ * is lent, and calls nothing of C but malloc, realloc and free, which are of one allocator. Any
+ * threads may call at once, each with memory and handles of its own.
+ *
+ * What a pointer leads to stays the caller's: it is lent for the call alone, and the library
+ * keeps none. A handle owns what it holds, until the call that lets go of it.
  *
  * Each pointer must lead to as many elements as the length behind it says, also where that is 0,
- * and must not be NULL. No call finds out that a length is too large. What is read may be lent
- * twice. What is written (memory, room, runs, tasks, handles and what is told) must not overlap
- * anything else that the same call is lent. No call is made from a signal handler, or in the forked
- * child of a process with threads. */
+ * and must not be NULL, but in the four calls that let go of a handle. No call finds out that a
+ * length is too large. What is read may be lent twice. What is written (memory, room, runs,
+ * tasks, handles and what is told) must not overlap anything else that the same call is lent. No
+ * call is made from a signal handler, or in the forked child of a process with threads. */
 #ifndef TELGOVAN_H
 #define TELGOVAN_H
 
@@ -23,9 +26,141 @@
 extern "C" {
 #endif
 
+/* The version of this header. */
+#define TELGOVAN_VERSION_MAJOR 0
+#define TELGOVAN_VERSION_MINOR 1
+#define TELGOVAN_VERSION_PATCH 0
+#define TELGOVAN_VERSION_TEXT "0.1.0"
+/* The same as telgovan_version() tells that of the library. */
+#define TELGOVAN_VERSION \
+    (TELGOVAN_VERSION_MAJOR * 65536 + TELGOVAN_VERSION_MINOR * 256 + TELGOVAN_VERSION_PATCH)
+
 /* The version of the library: 65,536 times the first of its three numbers, 256 times the second, and
- * the third. */
+ * the third. Nothing is lent, and there is no status. */
 uint32_t telgovan_version(void);
+
+/* ---- Statuses */
+
+/* refusals */
+/* Made by docs/refusals.py. */
+enum telgovan_status {
+    TELGOVAN_OK = 0,
+    TELGOVAN_NO_INSTRUCTION = 1,
+    TELGOVAN_RAGGED = 2,
+    TELGOVAN_TOO_LONG = 3,
+    TELGOVAN_UNKNOWN_OP = 4,
+    TELGOVAN_BAD_REGISTER = 5,
+    TELGOVAN_UNUSED_FIELD = 6,
+    TELGOVAN_HALF_WIDE = 7,
+    TELGOVAN_UNKNOWN_WORD = 11,
+    TELGOVAN_BAD_OPERAND = 12,
+    TELGOVAN_NUMBER_RANGE = 13,
+    TELGOVAN_JUMP_OUT = 21,
+    TELGOVAN_INTO_WIDE = 22,
+    TELGOVAN_CYCLE = 23,
+    TELGOVAN_FALLS_OFF = 24,
+    TELGOVAN_UNREACHABLE = 25,
+    TELGOVAN_UNSET_READ = 31,
+    TELGOVAN_OUT_OF_STACK = 32,
+    TELGOVAN_OUT_OF_PART = 33,
+    TELGOVAN_BAD_KIND = 34,
+    TELGOVAN_POINTER_RANGE = 35,
+    TELGOVAN_FRAME_POINTER = 36,
+    TELGOVAN_NO_HELPER = 37,
+    TELGOVAN_NEED_TOO_LARGE = 38,
+    TELGOVAN_NOTHING_HELD = 41,
+    TELGOVAN_CREDIT_LOW = 42,
+    TELGOVAN_MEMORY_SHORT = 43,
+    TELGOVAN_BAD_ID = 44,
+    TELGOVAN_TOO_MANY_ARGUMENTS = 45,
+    TELGOVAN_PROGRAM_SET = 46,
+    TELGOVAN_TASK_ENDED = 47,
+    TELGOVAN_MAY_ASK = 48,
+    TELGOVAN_STRANGER = 51,
+    TELGOVAN_OVER_SPENT = 52,
+    TELGOVAN_SHARE_OVER_CREDIT = 53,
+    TELGOVAN_NO_PROGRAMS = 61,
+    TELGOVAN_TOO_MANY_PROGRAMS = 62,
+    TELGOVAN_ROOT_CREDIT_LOW = 63,
+    TELGOVAN_ROOT_BUFFER_SHORT = 64,
+    TELGOVAN_TOO_LARGE = 65,
+    TELGOVAN_FRAME_TOO_LARGE = 71,
+    TELGOVAN_NOT_JSON = 72,
+    TELGOVAN_NOT_TEXT = 73,
+    TELGOVAN_NO_TENANT = 74,
+    TELGOVAN_BALANCE_LOW = 75,
+    TELGOVAN_NO_JOB = 76,
+    TELGOVAN_NOT_COMPLETE = 77,
+    TELGOVAN_NO_CONNECTION = 78,
+    TELGOVAN_NO_WORKER = 81,
+    TELGOVAN_BOOK_REFUSED = 82,
+    TELGOVAN_READ_FAILED = 83,
+    TELGOVAN_WRITE_FAILED = 84,
+    TELGOVAN_NO_MEMORY = 99
+};
+
+/* What a status says: a text that is always there, is never NULL, and is not to be freed. It is
+ * "done" for 0, and "unknown" for a number that is no refusal's. */
+static inline const char *telgovan_status_text(uint32_t status)
+{
+    switch (status) {
+    case TELGOVAN_OK: return "done";
+    case TELGOVAN_NO_INSTRUCTION: return "there is no instruction";
+    case TELGOVAN_RAGGED: return "the length in bytes is no multiple of 8";
+    case TELGOVAN_TOO_LONG: return "the program has more than 4096 slots";
+    case TELGOVAN_UNKNOWN_OP: return "no instruction has this opcode with these fields";
+    case TELGOVAN_BAD_REGISTER: return "a register over 10 is used";
+    case TELGOVAN_UNUSED_FIELD: return "a field that the instruction does not use is not zero";
+    case TELGOVAN_HALF_WIDE: return "the second slot of a wide load is missing";
+    case TELGOVAN_UNKNOWN_WORD: return "no instruction has this word";
+    case TELGOVAN_BAD_OPERAND: return "the operands are not those of the word";
+    case TELGOVAN_NUMBER_RANGE: return "a number or a register is out of range";
+    case TELGOVAN_JUMP_OUT: return "a jump leads out of the program";
+    case TELGOVAN_INTO_WIDE: return "a jump leads into the middle of a wide load";
+    case TELGOVAN_CYCLE: return "a path leads back to where it has been: there is a loop";
+    case TELGOVAN_FALLS_OFF: return "the program may run past its end";
+    case TELGOVAN_UNREACHABLE: return "no path leads to an instruction";
+    case TELGOVAN_UNSET_READ: return "a register is read that may be unset";
+    case TELGOVAN_OUT_OF_STACK: return "an access may leave the 512 bytes of the stack";
+    case TELGOVAN_OUT_OF_PART: return "an access may leave the bytes of the part that the program needs";
+    case TELGOVAN_BAD_KIND: return "a number where a pointer has to be, or a pointer for a number";
+    case TELGOVAN_POINTER_RANGE: return "a pointer may go too far from its region";
+    case TELGOVAN_FRAME_POINTER: return "r10 is written";
+    case TELGOVAN_NO_HELPER: return "no helper has this number";
+    case TELGOVAN_NEED_TOO_LARGE: return "the need is over 65536 bytes";
+    case TELGOVAN_NOTHING_HELD: return "nothing is held: no program, no job or no desk";
+    case TELGOVAN_CREDIT_LOW: return "the credit is under the program's cost";
+    case TELGOVAN_MEMORY_SHORT: return "the memory is too short, or not as long as at the start";
+    case TELGOVAN_BAD_ID: return "the id of a host's helper is none of 64 to 127";
+    case TELGOVAN_TOO_MANY_ARGUMENTS: return "a helper takes more than 5 arguments";
+    case TELGOVAN_PROGRAM_SET: return "a program is set already";
+    case TELGOVAN_TASK_ENDED: return "the task has ended, or there is none";
+    case TELGOVAN_MAY_ASK: return "the program may call the host's helpers, and is run without a task";
+    case TELGOVAN_STRANGER: return "the job has no such task";
+    case TELGOVAN_OVER_SPENT: return "more is used than the task holds";
+    case TELGOVAN_SHARE_OVER_CREDIT: return "the share is over the credit that the task holds";
+    case TELGOVAN_NO_PROGRAMS: return "the job has no program";
+    case TELGOVAN_TOO_MANY_PROGRAMS: return "the job has more than 16 programs";
+    case TELGOVAN_ROOT_CREDIT_LOW: return "the credit is under the cost of the root";
+    case TELGOVAN_ROOT_BUFFER_SHORT: return "the buffer is shorter than the need of the root";
+    case TELGOVAN_TOO_LARGE: return "a length or a credit is over its limit, or a room is too short";
+    case TELGOVAN_FRAME_TOO_LARGE: return "a frame is over 1048576 bytes";
+    case TELGOVAN_NOT_JSON: return "this is no JSON";
+    case TELGOVAN_NOT_TEXT: return "there is no such request, or a text is not UTF-8 or hexadecimal";
+    case TELGOVAN_NO_TENANT: return "there is no such tenant here";
+    case TELGOVAN_BALANCE_LOW: return "the credit is over the tenant's balance";
+    case TELGOVAN_NO_JOB: return "there is no such job, or it is forgotten";
+    case TELGOVAN_NOT_COMPLETE: return "the job is not complete";
+    case TELGOVAN_NO_CONNECTION: return "there is no such connection";
+    case TELGOVAN_NO_WORKER: return "the job failed: no thread could start, or too many jobs were open";
+    case TELGOVAN_BOOK_REFUSED: return "the job failed: its report does not add up to its credit";
+    case TELGOVAN_READ_FAILED: return "the input could not be read";
+    case TELGOVAN_WRITE_FAILED: return "the output could not be written";
+    case TELGOVAN_NO_MEMORY: return "out of memory";
+    default: return "unknown";
+    }
+}
+/* end of refusals */
 
 /* ---- Programs as bytes and as text */
 
@@ -45,28 +180,54 @@ struct telgovan_written {
     bool has_place;  /* whether it stands at a place */
 };
 
-/* Verifies a program that needs so many bytes of memory, and answers the verdict's status. */
+/* Writes what a status says, without a zero: as telgovan_status_text, for who has no header. It
+ * answers 0, or 65 where the room is too short.
+ *
+ * All that it is given is lent for the call alone, and none of it is NULL. Statuses: 0 or 65. */
+uint32_t telgovan_status_words(uint32_t status, uint8_t *room, size_t room_length,
+                               struct telgovan_written *written);
+
+/* Writes what to do about a status, without a zero: nothing for 0 and for a number that is no
+ * refusal's. It answers 0, or 65 where the room is too short.
+ *
+ * All that it is given is lent for the call alone, and none of it is NULL. Statuses: 0 or 65. */
+uint32_t telgovan_status_help(uint32_t status, uint8_t *room, size_t room_length,
+                              struct telgovan_written *written);
+
+/* Verifies a program that needs so many bytes of memory, and answers the verdict's status.
+ *
+ * All that it is given is lent for the call alone, and none of it is NULL. Statuses: 0, 1 to 7,
+ * 21 to 25, 31 to 38 or 99. */
 uint32_t telgovan_verify(uint32_t need, const uint8_t *code, size_t code_length,
                          struct telgovan_verdict *verdict);
 
 /* Writes the bytes of the program that a source text says, in UTF-8, and answers the status: 1 and
  * 3, 11 to 13 with their line, 65 where the room is too short, 73 where the text is no UTF-8, or
- * 99. */
+ * 99.
+ *
+ * All that it is given is lent for the call alone, and none of it is NULL. Statuses: 0, 1, 3,
+ * 11 to 13, 65, 73 or 99. */
 uint32_t telgovan_assemble(const uint8_t *source, size_t source_length, uint8_t *room,
                            size_t room_length, struct telgovan_written *written);
 
 /* Writes the lines of the program that the bytes spell, each with a line feed behind it and none
  * with a zero, and answers the status: 1 to 7 with their slot, 65 where the room is too short,
- * 99. */
+ * 99.
+ *
+ * All that it is given is lent for the call alone, and none of it is NULL. Statuses: 0, 1 to 7,
+ * 65 or 99. */
 uint32_t telgovan_disassemble(const uint8_t *code, size_t code_length, uint8_t *room,
                               size_t room_length, struct telgovan_written *written);
 
-/* Writes why a program of this need is refused, as text for whoever wrote it: the rule that it
- * breaks, the instruction with its line in the source text, a way that leads there, and what is
- * known of each register there. It answers the status: 0 where the program is accepted, and nothing
- * is written, else the number of the refusal with its slot as the place, or 99. `length` is how
- * many bytes the text has; where they don't fit, the room stays as it was. A source text gives the
- * line where it assembles to these bytes, and none else. */
+/* Writes why a program of this need is refused, as text for whoever wrote it: what is wrong, the
+ * instruction with its line in the source text, a way that leads there, and what is known of each
+ * register there. It answers the status: 0 where the program is accepted, and nothing is written,
+ * else the number of the refusal with its slot as the place, or 99. `length` is how many bytes the
+ * text has; where they don't fit, the room stays as it was. A source text gives the line where it
+ * assembles to these bytes, and none else.
+ *
+ * All that it is given is lent for the call alone, and none of it is NULL. Statuses: 0, 1 to 7,
+ * 21 to 25, 31 to 38 or 99. */
 uint32_t telgovan_explain(uint32_t need, const uint8_t *code, size_t code_length,
                           const uint8_t *source, size_t source_length, uint8_t *room,
                           size_t room_length, struct telgovan_written *written);
@@ -76,7 +237,10 @@ uint32_t telgovan_explain(uint32_t need, const uint8_t *code, size_t code_length
  * that isn't allowed and a way there. It answers the status: 0 where the program is accepted; the
  * number of the refusal, with its slot as the place, where an instruction isn't allowed; 65 where
  * the room is too short; or 99. Where a program has no graph, nothing is written, and the status is
- * the number of its refusal: `length` is 0. The source text is that of telgovan_explain. */
+ * the number of its refusal: `length` is 0. The source text is that of telgovan_explain.
+ *
+ * All that it is given is lent for the call alone, and none of it is NULL. Statuses: 0, 65, 1
+ * to 7, 21 to 25, 31 to 38 or 99. */
 uint32_t telgovan_graph(uint32_t need, const uint8_t *code, size_t code_length,
                         const uint8_t *source, size_t source_length, uint8_t *room,
                         size_t room_length, struct telgovan_written *written);
@@ -102,7 +266,10 @@ struct telgovan_run {
 /* Verifies a program and runs it once, in place, with the memory as its part. It answers the
  * outcome's status: that of the verdict where the program is refused, else 65 where the memory has
  * over 65,536 bytes or the credit is over 2,147,483,647, 42 where the credit is under the cost, 43
- * where the memory is shorter than the need, or 0. */
+ * where the memory is shorter than the need, or 0.
+ *
+ * All that it is given is lent for the call alone, and none of it is NULL. Statuses: 0, 42, 43,
+ * 65, 1 to 7, 21 to 25, 31 to 38 or 99. */
 uint32_t telgovan_run(uint32_t need, const uint8_t *code, size_t code_length, uint32_t credit,
                       uint64_t argument, uint8_t *memory, size_t memory_length,
                       struct telgovan_outcome *outcome);
@@ -116,7 +283,10 @@ uint32_t telgovan_run(uint32_t need, const uint8_t *code, size_t code_length, ui
  *
  * It answers the status: that of the verdict with the slot as the place, else that of telgovan_run,
  * else 0; 65 where the room is too short, or 99. 65 of length 0 is over a limit; that is also told
- * where the position of a pointer has more than 64 bits. */
+ * where the position of a pointer has more than 64 bits.
+ *
+ * All that it is given is lent for the call alone, and none of it is NULL. Statuses: 0, 42, 43,
+ * 65, 1 to 7, 21 to 25, 31 to 38 or 99. */
 uint32_t telgovan_trace(uint32_t need, const uint8_t *code, size_t code_length,
                         const uint8_t *source, size_t source_length, uint32_t credit,
                         uint64_t argument, const uint8_t *memory, size_t memory_length,
@@ -124,7 +294,10 @@ uint32_t telgovan_trace(uint32_t need, const uint8_t *code, size_t code_length,
 
 /* Verifies a program once and runs it in place on each piece of the memory in turn, each time with
  * this credit. It answers the verdict's status; where the program is refused nothing runs. A run
- * that is refused, as above or by 43 where the memory has no such piece, doesn't stop the next. */
+ * that is refused, as above or by 43 where the memory has no such piece, doesn't stop the next.
+ *
+ * All that it is given is lent for the call alone, and none of it is NULL. Statuses: 0, 1 to 7,
+ * 21 to 25, 31 to 38 or 99; of each run 0, 42, 43 or 65. */
 uint32_t telgovan_burst(uint32_t need, const uint8_t *code, size_t code_length, uint32_t credit,
                         uint8_t *memory, size_t memory_length, struct telgovan_run *runs,
                         size_t runs_length, struct telgovan_verdict *verdict);
@@ -144,36 +317,52 @@ struct telgovan_program {
 };
 
 /* Verifies a program, and lets the handle hold it in place of the one that it held. It answers the
- * verdict's status. Where that isn't 0, the handle holds what it held. */
+ * verdict's status. Where that isn't 0, the handle holds what it held.
+ *
+ * The handle owns the program until telgovan_program_unload. The code isn't kept: all is lent
+ * for the call alone, and none of it is NULL. Statuses: 0, 1 to 7, 21 to 25, 31 to 38 or 99. */
 uint32_t telgovan_program_load(uint32_t need, const uint8_t *code, size_t code_length,
                                struct telgovan_program *program,
                                struct telgovan_verdict *verdict);
 
 /* Runs the program that the handle holds once, in place, with the memory as its part, and takes no
  * memory of its own. It answers the outcome's status: 41 where the handle holds none, 48 where the
- * program may call helpers of the host's (below), else as telgovan_run. */
+ * program may call helpers of the host's (below), else as telgovan_run.
+ *
+ * The handle keeps its program. All that it is given is lent for the call alone, and none of it
+ * is NULL. Statuses: 0, 41, 42, 43, 48 or 65. */
 uint32_t telgovan_program_run(struct telgovan_program *program, uint32_t credit, uint64_t argument,
                               uint8_t *memory, size_t memory_length,
                               struct telgovan_outcome *outcome);
 
 /* Runs the program that the handle holds on each piece of the memory in turn, as telgovan_burst. It
  * answers 0; or 41 where the handle holds none, or 48 where the program may call helpers of the
- * host's, after which nothing changed. */
+ * host's, after which nothing changed.
+ *
+ * The handle keeps its program. All that it is given is lent for the call alone, and none of it
+ * is NULL. Statuses: 0, 41 or 48; of each run 0, 42, 43 or 65. */
 uint32_t telgovan_program_burst(struct telgovan_program *program, uint32_t credit, uint8_t *memory,
                                 size_t memory_length, struct telgovan_run *runs,
                                 size_t runs_length);
 
 /* Lets another handle hold the program too, in place of the one that it held: for another thread,
  * say. It answers 0; or 41 where there is no program, or 99, after which the other handle holds
- * what it held. */
+ * what it held.
+ *
+ * Each handle owns its share until telgovan_program_unload. Neither pointer is NULL. Statuses:
+ * 0, 41 or 99. */
 uint32_t telgovan_program_share(struct telgovan_program *program, struct telgovan_program *other);
 
 /* Tells the most that a run of the program may use of its credit. It answers 0, or 41 where the
- * handle holds none, after which the cost is what it was. */
+ * handle holds none, after which the cost is what it was.
+ *
+ * The handle keeps its program. Neither pointer is NULL. Statuses: 0 or 41. */
 uint32_t telgovan_program_cost(struct telgovan_program *program, uint32_t *cost);
 
 /* Lets go of the program that the handle holds, and frees it where no other handle holds it. The
- * handle holds none from then on, so that a second call does nothing. */
+ * handle holds none from then on, so that a second call does nothing.
+ *
+ * NULL is taken for a handle that holds none. There is no status. */
 void telgovan_program_unload(struct telgovan_program *program);
 
 /* ---- Tasks, which stop where they ask their host */
@@ -187,7 +376,10 @@ void telgovan_program_unload(struct telgovan_program *program);
 
 /* As telgovan_program_load, with helpers of the host's beside those of a job. `arities` says how
  * many arguments each of them takes, by its id from 64 on: 0 to 5, or TELGOVAN_NO_HELPER. The first
- * refusals are 44 for more than 64 of them, and 45 for another number. */
+ * refusals are 44 for more than 64 of them, and 45 for another number.
+ *
+ * Else it is as telgovan_program_load: the arities aren't kept either. Statuses: 0, 44, 45, 1
+ * to 7, 21 to 25, 31 to 38 or 99. */
 uint32_t telgovan_program_load_with(uint32_t need, const uint8_t *code, size_t code_length,
                                     const uint32_t *arities, size_t arities_length,
                                     struct telgovan_program *program,
@@ -221,7 +413,10 @@ struct telgovan_event {
  * hold it in place of the one that it held. Nothing runs yet. The task holds the program too, so
  * that the program's handle may be unloaded. It answers 0; or 41 where there is no program, 65
  * where the length is over 65,536 or the credit is over 2,147,483,647, 42 where the credit is under
- * the cost, 43 where the length is under the need, or 99, after which `task` holds what it held. */
+ * the cost, 43 where the length is under the need, or 99, after which `task` holds what it held.
+ *
+ * The handle `task` owns the task until telgovan_task_drop. No memory is lent yet. Neither
+ * handle is NULL. Statuses: 0, 41, 42, 43, 65 or 99. */
 uint32_t telgovan_task_start(struct telgovan_program *program, uint32_t credit, uint64_t argument,
                              size_t memory_length, struct telgovan_task_handle *task);
 
@@ -230,12 +425,17 @@ uint32_t telgovan_task_start(struct telgovan_program *program, uint32_t credit, 
  * isn't one, until one ends the task or calls a helper of the host's. The memory is that of the
  * task's start or another one of the same length: between two calls the host may change its bytes.
  * It answers the event's status: 47 where the handle holds no task, or its task has ended, 43 where
- * the memory has another length than at the start, or 0. No memory is asked for. */
+ * the memory has another length than at the start, or 0. No memory is asked for.
+ *
+ * The handle keeps its task, and the memory isn't kept. All that it is given is lent for the
+ * call alone, and none of it is NULL. Statuses: 0, 43 or 47. */
 uint32_t telgovan_task_go(struct telgovan_task_handle *task, uint64_t answer, uint8_t *memory,
                           size_t memory_length, uint32_t limit, struct telgovan_event *event);
 
 /* Lets go of the task, whether it has ended or not. The handle holds none from then on, so that a
- * second call does nothing. */
+ * second call does nothing.
+ *
+ * NULL is taken for a handle that holds none. There is no status. */
 void telgovan_task_drop(struct telgovan_task_handle *task);
 
 /* ---- Whole jobs */
@@ -278,7 +478,10 @@ struct telgovan_report {
  * and the tasks as they were: 61 there is no piece, 62 there are over 16, 65 the credit is over
  * 2,147,483,647 or the buffer has over 65,536 bytes; 43 a piece isn't in the code, with its place;
  * the first refusal of a program, with its place and its slot; 63 the credit is under the root's
- * cost, 64 the buffer is shorter than its need. 99 may come behind the first three. */
+ * cost, 64 the buffer is shorter than its need. 99 may come behind the first three.
+ *
+ * All that it is given is lent for the call alone, and none of it is NULL. Statuses: 0, 43, 61
+ * to 65, 1 to 7, 21 to 25, 31 to 38 or 99. */
 uint32_t telgovan_job(const uint8_t *code, size_t code_length, const struct telgovan_piece *pieces,
                       size_t pieces_length, uint32_t credit, uint8_t *buffer, size_t buffer_length,
                       struct telgovan_task *tasks, size_t tasks_length,
@@ -293,7 +496,10 @@ uint32_t telgovan_job(const uint8_t *code, size_t code_length, const struct telg
  *
  * It answers the status: that of the job's refusal, with the place of the program that it is about;
  * 65 where the room is too short, 99, or 0. 65 of length 0 is over a limit; that is also told where
- * the position of a pointer has more than 64 bits. */
+ * the position of a pointer has more than 64 bits.
+ *
+ * All that it is given is lent for the call alone, and none of it is NULL. Statuses: 0, 43, 61
+ * to 65, 1 to 7, 21 to 25, 31 to 38 or 99. */
 uint32_t telgovan_job_trace(const uint8_t *code, size_t code_length,
                             const struct telgovan_piece *pieces, size_t pieces_length,
                             uint32_t credit, const uint8_t *buffer, size_t buffer_length,
@@ -332,7 +538,11 @@ struct telgovan_step {
 
 /* Admits a job as telgovan_job, and lets the handle hold it at its start, in place of the one that
  * it held: its root alone, with all of the credit, on a copy of the buffer. It answers the report's
- * status; where that isn't 0, the handle holds what it held. */
+ * status; where that isn't 0, the handle holds what it held.
+ *
+ * The handle owns the job and its copy of the buffer until telgovan_world_drop. All else is
+ * lent for the call alone, and none of it is NULL. Statuses: 0, 43, 61 to 65, 1 to 7, 21 to 25,
+ * 31 to 38 or 99. */
 uint32_t telgovan_world_open(const uint8_t *code, size_t code_length,
                              const struct telgovan_piece *pieces, size_t pieces_length,
                              uint32_t credit, const uint8_t *buffer, size_t buffer_length,
@@ -342,17 +552,24 @@ uint32_t telgovan_world_open(const uint8_t *code, size_t code_length,
  * ends. It tells what that came to and how the job stands, also where nothing ran. Once no task is
  * alive, the buffer, the R0s of the tasks by their places in the tree and the credit spent are the
  * same whatever the order was, but where a spawn was refused for want of memory. It answers 0, or
- * 41 where the handle holds no job. */
+ * 41 where the handle holds no job.
+ *
+ * The handle keeps its job. Neither pointer is NULL. Statuses: 0 or 41. */
 uint32_t telgovan_world_run(struct telgovan_world *world, uint32_t number, uint32_t limit,
                             struct telgovan_step *step);
 
 /* Writes the buffer of the job as it is now. It answers 0; 65 where the room is too short, with the
- * length that it takes; 41 where the handle holds no job, or 99. */
+ * length that it takes; 41 where the handle holds no job, or 99.
+ *
+ * The handle keeps its job. All that it is given is lent for the call alone, and none of it is
+ * NULL. Statuses: 0, 41, 65 or 99. */
 uint32_t telgovan_world_buffer(struct telgovan_world *world, uint8_t *room, size_t room_length,
                                struct telgovan_written *written);
 
 /* Lets go of the job, whether it is over or not. The handle holds none from then on, so that a
- * second call does nothing. */
+ * second call does nothing.
+ *
+ * NULL is taken for a handle that holds none. There is no status. */
 void telgovan_world_drop(struct telgovan_world *world);
 
 /* ---- Desks: accounts and jobs of many clients, whatever carries their bytes */
@@ -381,12 +598,17 @@ struct telgovan_handed {
 };
 
 /* Makes a desk without tenants, jobs and connections, and lets the handle hold it in place of the
- * one that it held. It answers 0; or 99, after which the handle holds what it held. */
+ * one that it held. It answers 0; or 99, after which the handle holds what it held.
+ *
+ * The handle owns the desk until telgovan_desk_free, and isn't NULL. Statuses: 0 or 99. */
 uint32_t telgovan_desk_new(struct telgovan_desk *desk);
 
 /* Begins a conversation with a client, and tells the number of its connection, counted from 1. No
  * number is given twice. It answers 0; or 41 where the handle holds no desk, or 99, after which
- * nothing changed. */
+ * nothing changed.
+ *
+ * The desk owns the conversation until telgovan_desk_disconnect. Neither pointer is NULL.
+ * Statuses: 0, 41 or 99. */
 uint32_t telgovan_desk_connect(struct telgovan_desk *desk, uint64_t *connection);
 
 /* Takes bytes that came on a connection, in pieces of any size, and answers each frame that is
@@ -397,23 +619,34 @@ uint32_t telgovan_desk_connect(struct telgovan_desk *desk, uint64_t *connection)
  *
  * The replies to a piece are held until they are sent, and a request of 27 bytes may ask for the
  * report of a job of any size. So give pieces of a few thousand bytes at most, and send what is due
- * before the next. */
+ * before the next.
+ *
+ * The desk copies of the bytes what it still needs. All that it is given is lent for the call
+ * alone, and none of it is NULL. Statuses: 0, 41, 71, 78 or 99. */
 uint32_t telgovan_desk_feed(struct telgovan_desk *desk, uint64_t connection, const uint8_t *bytes,
                             size_t length);
 
 /* Writes bytes that are to be sent on a connection into the room, as many as there is room for.
- * They count as sent. It answers 0; or 41 or 78 as above, after which nothing changed. */
+ * They count as sent. It answers 0; or 41 or 78 as above, after which nothing changed.
+ *
+ * All that it is given is lent for the call alone, and none of it is NULL. Statuses: 0, 41 or
+ * 78. */
 uint32_t telgovan_desk_replies(struct telgovan_desk *desk, uint64_t connection, uint8_t *room,
                                size_t room_length, struct telgovan_sent *sent);
 
 /* Ends the conversation of a connection, and drops what was still to be sent. Its jobs stay. It
- * answers 0; or 41 or 78 as above. */
+ * answers 0; or 41 or 78 as above.
+ *
+ * The handle isn't NULL. Statuses: 0, 41 or 78. */
 uint32_t telgovan_desk_disconnect(struct telgovan_desk *desk, uint64_t connection);
 
 /* Hands the job of lowest number that waits over, once, and writes its object into the room: the
  * JSON that `bpfjobs run` reads. It answers 0, and number 0 where no job waits; 65 where the room
  * is too short, with the length that it needs, after which the job waits as before; or 41 as
- * above. */
+ * above.
+ *
+ * The desk keeps the job, which is open until telgovan_desk_finish. All that it is given is
+ * lent for the call alone, and none of it is NULL. Statuses: 0, 41 or 65. */
 uint32_t telgovan_desk_next_job(struct telgovan_desk *desk, uint8_t *room, size_t room_length,
                                 struct telgovan_handed *handed);
 
@@ -422,15 +655,49 @@ uint32_t telgovan_desk_next_job(struct telgovan_desk *desk, uint8_t *room, size_
  * as 82. Where the report's status isn't 0, the job failed by that number, and its whole credit
  * goes back. It answers 0; 76 where no job of this number was handed over and is open, so that a
  * second report is refused; 65 where the status is over 255 or a task's program over 65,535; 41 as
- * above, or 99. After a refusal nothing changed. */
+ * above, or 99. After a refusal nothing changed.
+ *
+ * The desk copies what it keeps. All that it is given is lent for the call alone, and none of
+ * it is NULL. Statuses: 0, 41, 65, 76 or 99. */
 uint32_t telgovan_desk_finish(struct telgovan_desk *desk, uint64_t job,
                               const struct telgovan_report *report, const uint8_t *buffer,
                               size_t buffer_length, const struct telgovan_task *tasks,
                               size_t tasks_length);
 
 /* Lets go of the desk, with its accounts, its jobs and its conversations. The handle holds none
- * from then on, so that a second call does nothing. */
+ * from then on, so that a second call does nothing.
+ *
+ * NULL is taken for a handle that holds none. There is no status. */
 void telgovan_desk_free(struct telgovan_desk *desk);
+
+/* ---- Handles that may be NULL */
+
+/* The library itself takes no NULL. So what lets go of a handle looks for one here, and then does
+ * nothing. */
+static inline void telgovan_program_unload_any(struct telgovan_program *program)
+{
+    if (program)
+        telgovan_program_unload(program);
+}
+static inline void telgovan_task_drop_any(struct telgovan_task_handle *task)
+{
+    if (task)
+        telgovan_task_drop(task);
+}
+static inline void telgovan_world_drop_any(struct telgovan_world *world)
+{
+    if (world)
+        telgovan_world_drop(world);
+}
+static inline void telgovan_desk_free_any(struct telgovan_desk *desk)
+{
+    if (desk)
+        telgovan_desk_free(desk);
+}
+#define telgovan_program_unload telgovan_program_unload_any
+#define telgovan_task_drop telgovan_task_drop_any
+#define telgovan_world_drop telgovan_world_drop_any
+#define telgovan_desk_free telgovan_desk_free_any
 
 #ifdef __cplusplus
 }

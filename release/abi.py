@@ -37,16 +37,33 @@ COMPILER = os.environ.get("CC", "cc")
 PLAIN = ("--no-show-locs", "--no-corpus-path", "--no-comp-dir-path")
 
 
+# what the header defines itself, which no object has
+INLINE = re.compile(r"^static inline .*?^}$", re.MULTILINE | re.DOTALL)
+# a constant, but for the version, which changes with each
+CONSTANT = re.compile(r"^(#define TELGOVAN_(?!VERSION)\w+ .+?)\s*$", re.MULTILINE)
+# a name that the header gives to a function of its own
+RENAMED = re.compile(r"^#define (telgovan_\w+)", re.MULTILINE)
+
+
 def declared(header):
     """The declarations of the header, sorted, without comments and with one blank between words."""
     text = re.sub(r"/\*.*?\*/", " ", header, flags=re.DOTALL)
+    text = INLINE.sub("", text).replace("\\\n", " ")
     text = re.sub(r'#ifdef __cplusplus\n.*?#endif\n', "", text, flags=re.DOTALL)
-    constants = re.findall(r"^(#define \w+ .+?)\s*$", text, re.MULTILINE)
+    constants = CONSTANT.findall(text)
     text = re.sub(r"^#.*$", "", text, flags=re.MULTILINE)
     parts = re.findall(r"[^;{}]+(?:\{[^}]*\})?\s*;", text)
     if re.sub(r"\s", "", "".join(parts)) != re.sub(r"\s", "", text):
         raise ValueError("the header has what isn't a declaration")
-    return sorted([*constants, *(re.sub(r"\s+", " ", part).strip() for part in parts)])
+    lines = [re.sub(r"\s+", " ", part).strip() for part in parts]
+    return sorted([*constants, *(line for part in lines for line in each_status(part))])
+
+
+def each_status(line):
+    """A declaration; of the statuses, to which others may come, each on a line of its own."""
+    if not line.startswith("enum telgovan_status {"):
+        return [line]
+    return [f"enum telgovan_status {status}" for status in re.findall(r"\w+ = \d+", line)]
 
 
 def functions(lines):
@@ -73,7 +90,8 @@ def object_of(header, room):
     source, made = room / "functions.c", room / SONAME
     bodies = [f"{line[:-1]} {{ __builtin_trap(); }}" for line in declared(header) if FUNCTION.search(line)]
     (room / "telgovan.h").write_text(header, encoding="utf-8")
-    source.write_text("\n".join(['#include "telgovan.h"', *bodies, ""]), encoding="utf-8")
+    hidden = [f"#undef {name}" for name in RENAMED.findall(header)]
+    source.write_text("\n".join(['#include "telgovan.h"', *hidden, *bodies, ""]), encoding="utf-8")
     flags = ["-std=c11", "-g", "-O0", "-shared", "-fPIC", f"-Wl,-soname,{SONAME}"]
     subprocess.run([COMPILER, *flags, "-o", made, source.name], cwd=room, check=True)
     return made

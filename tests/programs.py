@@ -36,6 +36,12 @@ def told(program, words, given=b""):
     return ran.returncode, ran.stdout.decode()
 
 
+def tried(words):
+    """The status of bpfrun, and what it prints: a refusal stands where errors do."""
+    ran = subprocess.run([BPFRUN, *words], capture_output=True, timeout=PATIENCE, check=False)
+    return ran.returncode, (ran.stderr if ran.returncode == 1 and not ran.stdout else ran.stdout).decode()
+
+
 def bpfjobs(*words, given=""):
     return told(BPFJOBS, words, given.encode() if isinstance(given, str) else given)
 

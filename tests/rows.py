@@ -3,38 +3,18 @@
 import functools
 import os
 import re
+import sys
 from collections import namedtuple
 
 from programs import assemble
 
 DATA = os.path.join(os.path.dirname(os.path.abspath(__file__)), "data")
 
-# What `bpfrun` tells of a refusal, with its line or its slot.
-REFUSALS = {
-    1: "no instruction",
-    2: "the length is no multiple of 8",
-    3: "more than 4096 slots",
-    4: "unknown operation at slot {}",
-    5: "register over 10 at slot {}",
-    6: "unused field that is not zero at slot {}",
-    7: "half of a wide instruction at slot {}",
-    11: "line {}: no instruction has this word",
-    12: "line {}: the operands are not those of the word",
-    13: "line {}: a number or a register is out of range",
-    21: "jump out of the program at slot {}",
-    22: "jump into a wide instruction at slot {}",
-    23: "cycle through slot {}",
-    24: "nothing follows the instruction at slot {}",
-    25: "unreachable instruction at slot {}",
-    31: "read of an unset register at slot {}",
-    32: "access out of the stack at slot {}",
-    33: "access out of the part at slot {}",
-    34: "wrong kind of value at slot {}",
-    35: "pointer out of range at slot {}",
-    36: "write of r10 at slot {}",
-    37: "unknown helper at slot {}",
-    38: "need over 65536",
-}
+# What is wrong, by the number of a refusal.
+sys.path.insert(0, os.path.join(os.path.dirname(os.path.dirname(os.path.abspath(__file__))), "docs"))
+import refusals  # noqa: E402  (the script stands in the folder that was just added)
+
+REFUSALS = {number: one["text"] for number, one in refusals.refusals().items()}
 
 Row = namedtuple("Row", "place question program answer")
 

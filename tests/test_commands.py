@@ -6,7 +6,7 @@ import subprocess
 import tempfile
 import unittest
 
-from programs import BPFJOBS, BPFRUN, TOP, Server, may_listen, told
+from programs import BPFJOBS, BPFRUN, TOP, Server, may_listen, told, tried
 from rows import fields
 
 
@@ -55,8 +55,9 @@ class Commands(unittest.TestCase):
                         continue
                     self.write(room, words, lines_of(file), memory)
                     paths = [os.path.join(room, word) if self.is_file(word, words) else word for word in words]
-                    ran = told(BPFRUN, paths)
-                    self.assertEqual((ran[0], ran[1].rstrip()), (int(status), lines_of(output)))
+                    code, text = tried(paths)
+                    text = text.replace(f"{room}/", "").rstrip()
+                    self.assertEqual((code, text), (int(status), lines_of(output)))
 
     @staticmethod
     def is_file(word, words):
@@ -73,17 +74,19 @@ class Commands(unittest.TestCase):
 
 
 class Colours(unittest.TestCase):
-    """Nothing is coloured, on a terminal neither: no escape comes."""
+    """Nothing is coloured, on a terminal neither, but what bpfrun says is wrong with a program: no other escape comes."""
 
     WORDS = {
         BPFJOBS: ["--help", "help play", "run --help", "nothing", "verify", "--version"],
-        BPFRUN: ["--help", "--nothing", "--version", "examples/byte_at.bpf --need 15 --explain", "nowhere.bpf"],
+        BPFRUN: ["--help", "--nothing", "--version", "examples/byte_at.bpf --need 15 --graph", "nowhere.bpf"],
     }
+    REFUSED = "examples/byte_at.bpf --need 15"
 
-    def on_a_terminal(self, program, words):
+    def on_a_terminal(self, program, words, **more):
         ours, theirs = pty.openpty()
+        given = {name: text for name, text in os.environ.items() if name != "NO_COLOR"} | more
         with open(ours, "rb", buffering=0) as told:
-            with subprocess.Popen([program, *words], stdin=subprocess.DEVNULL, stdout=theirs, stderr=theirs, cwd=TOP):
+            with subprocess.Popen([program, *words], stdin=subprocess.DEVNULL, stdout=theirs, stderr=theirs, cwd=TOP, env=given):
                 os.close(theirs)
                 pieces = []
                 while True:
@@ -103,6 +106,15 @@ class Colours(unittest.TestCase):
                     told = self.on_a_terminal(program, line.split())
                     self.assertTrue(told)
                     self.assertNotIn(b"\x1b", told)
+
+    def test_what_is_wrong(self):
+        """It is red on a terminal, unless NO_COLOR is set, and the same but for that."""
+        coloured = self.on_a_terminal(BPFRUN, self.REFUSED.split())
+        plain = self.on_a_terminal(BPFRUN, self.REFUSED.split(), NO_COLOR="1")
+        self.assertTrue(coloured.startswith(b"\x1b[1;31merror[33]\x1b[0m: "), coloured)
+        self.assertIn(b" \x1b[1;31m^^^^^^\x1b[0m\r\n", coloured)
+        self.assertEqual(coloured.replace(b"\x1b[1;31m", b"").replace(b"\x1b[0m", b""), plain)
+        self.assertEqual(plain.replace(b"\r", b"").decode(), tried([f"{TOP}/{self.REFUSED.split()[0]}", "--need", "15"])[1].replace(f"{TOP}/", ""))
 
 
 if __name__ == "__main__":

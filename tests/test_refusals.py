@@ -1,6 +1,7 @@
 """One table has the refusals: docs/refusals.toml, from which docs/refusals.py writes where they are told."""
 
 import collections
+import ctypes
 import os
 import re
 import sys
@@ -9,6 +10,8 @@ import unittest
 TOP = os.path.dirname(os.path.dirname(os.path.abspath(__file__)))
 sys.path.insert(0, os.path.join(TOP, "docs"))
 import refusals  # noqa: E402  (the script stands in the folder that was just added)
+
+LIBRARY = os.path.join(os.environ.get("TELGOVAN_LIB", os.path.join(TOP, "bindings/out")), "libtelgovan.so")
 
 # `#[error("33: access out of the part at slot {0}")]`, and the variant below it
 VARIANT = re.compile(r'#\[error\("(\d+): [^\n]*\)\]\n\s+(?:///[^\n]*\n\s+)*(\w+)')
@@ -85,6 +88,27 @@ class Table(unittest.TestCase):
                     self.assertTrue(text.isascii() and text.isprintable())
                     self.assertTrue(text[0].islower())
                     self.assertFalse(text.endswith("."))
+
+    def test_what_c_is_told(self):
+        """Of each number, and of those that no refusal has."""
+        library = ctypes.CDLL(LIBRARY)
+        for number in (*range(300), 2**16 + 33, 2**32 - 1):
+            one = self.table.get(number)
+            words = one["text"] if one else "unknown" if number else "done"
+            with self.subTest(number=number):
+                self.assertEqual(self.written(library.telgovan_status_words, number), (0, words))
+                self.assertEqual(self.written(library.telgovan_status_help, number), (0, one["help"] if one else ""))
+
+    def written(self, call, number):
+        """The status of a call that writes a text, and that text; it fits a room of its length alone."""
+        told, room = (ctypes.c_uint64 * 3)(), ctypes.create_string_buffer(b"*" * 200)
+        number = ctypes.c_uint32(number)
+        status = call(number, room, ctypes.c_size_t(200), told)
+        length = told[0]
+        self.assertEqual(room.raw[length:200], b"*" * (200 - length))
+        if length:
+            self.assertEqual(call(number, room, ctypes.c_size_t(length - 1), told), 65)
+        return status, room.raw[:length].decode()
 
     def test_rows_of_the_page(self):
         for one in refusals.table()["table"]:

@@ -1,12 +1,13 @@
 """Rows of programs that run: by the library, by `bpfrun`, as a job, and by the model."""
 
 import os
+import re
 import tempfile
 import unittest
 
 from instructions import Refused, decode
 from jobs import Job, Program, run_alone
-from programs import BPFRUN, Server, play, submit_text, telgovan, told
+from programs import Server, play, submit_text, telgovan, tried
 from rows import code_of, fields, memory_of, refusal, rows, text_of
 
 WORD = (1 << 64) - 1
@@ -36,15 +37,16 @@ def by_bpfrun(need, code, credit, memory, argument=0):
             with open(file, "wb") as out:
                 out.write(content)
         words = [files[0], "--memory", files[1], "--need", need, "--credit", credit, "--arg", argument]
-        status, text = told(BPFRUN, map(str, words))
+        status, text = tried(map(str, words))
     lines = text.splitlines()
     if status == 0:
         r0, spent, left = (line.partition(" ")[2].strip() for line in lines)
         return f"r0 {r0} used {spent} memory {left or '-'}"
-    number = int(lines[0].split()[1].rstrip(":"))
+    number = int(lines[0].partition("[")[2].partition("]")[0])
     if number in (42, 43):
         return f"{number} memory {text_of(memory)}"
-    return refusal(number, lines[0].rpartition(" slot ")[2] if " slot " in lines[0] else None)
+    slots = re.findall(r"^  = at: slot (\d+)", text, re.MULTILINE)
+    return refusal(number, slots[0] if slots else None)
 
 
 def by_model(need, code, credit, memory, argument=0):

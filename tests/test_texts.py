@@ -4,7 +4,7 @@ import os
 import tempfile
 import unittest
 
-from programs import BPFRUN, bpfjobs, telgovan, told
+from programs import bpfjobs, telgovan, tried
 from rows import REFUSALS, fields, raw, refusal
 
 
@@ -47,7 +47,7 @@ class Texts(unittest.TestCase):
                     self.check(way, raw(given) if way == "assemble" else bytes.fromhex(given), answer)
 
     def test_refusals_are_told_with_words(self):
-        """`bpfrun` tells the rule, what is wrong, and the line."""
+        """`bpfrun` tells the number, what is wrong, and the line."""
         with tempfile.TemporaryDirectory() as room:
             file = os.path.join(room, "program.bpf")
             for place, (way, given, answer) in fields("texts.txt", 3):
@@ -57,7 +57,7 @@ class Texts(unittest.TestCase):
                 with self.subTest(place):
                     with open(file, "wb") as out:
                         out.write(raw(given))
-                    self.check_words(*told(BPFRUN, [file]), way, raw(given), answer)
+                    self.check_words(*tried([file]), way, raw(given), answer)
 
     def check_words(self, status, text, way, given, answer):
         self.assertEqual(status, 1)
@@ -67,7 +67,9 @@ class Texts(unittest.TestCase):
             self.assertEqual(quoted.rstrip("`"), raw(answer).decode().strip("`"))
             return
         number, _, line = answer.partition(" at ")
-        self.assertTrue(first.startswith(f"refused {number}: {REFUSALS[int(number)].format(line)}"), first)
+        self.assertTrue(first.startswith(f"error[{number}]: {REFUSALS[int(number)]}"), first)
+        if line:
+            self.assertTrue(text.split("\n")[1].endswith(f":{line}"), text)
 
     def test_the_limit_of_a_text(self):
         """4,096 slots, one more, and a faulty line behind them, which is told first."""

@@ -1,10 +1,11 @@
 """Rows of verdicts: by the library, by `bpfjobs verify`, by `bpfrun`, and where a job is admitted."""
 
 import os
+import re
 import tempfile
 import unittest
 
-from programs import BPFRUN, Server, bpfjobs, submit_text, telgovan, told
+from programs import Server, bpfjobs, submit_text, telgovan, tried
 from rows import REFUSALS, code_of, refusal, rows
 
 # Ends with 42: `mov64 r0, 42`, `exit`.
@@ -49,7 +50,7 @@ class Verdicts(unittest.TestCase):
             for place, need, code, answer in self.rows:
                 with open(file, "wb") as program:
                     program.write(code)
-                status, text = told(BPFRUN, [file, "--need", str(need)])
+                status, text = tried([file, "--need", str(need)])
                 with self.subTest(place):
                     self.check_run(status, text, answer)
 
@@ -60,8 +61,9 @@ class Verdicts(unittest.TestCase):
             self.assertRegex(text, r"^r0 \d+\nspent \d+\n$")
             self.assertLessEqual(int(text.split()[3]), int(number[5:]))
         else:
-            wanted = f"refused {number}: {REFUSALS[int(number)].format(slot)}\n"
-            self.assertEqual((status, text), (1, wanted))
+            words = REFUSALS[int(number)] if number != "33" else "this "
+            self.assertEqual((status, text.startswith(f"error[{number}]: {words}")), (1, True), text)
+            self.assertEqual(re.findall(r"^  = at: slot (\d+)(?:: .*)?$", text, re.MULTILINE), slot.split())
 
     def test_at_admission(self):
         """A job whose last program is refused is refused for it, behind whatever others, with its number."""

@@ -39,6 +39,7 @@ TOLD = (
     ("crates/server_log/src/log_line.rt", r'\\"version\\":\\"(.*?)\\"'),
     ("crates/sessions/src/server_reply.rt", r'\\"version\\":\\"(.*?)\\"'),
     ("docs/try.html", r'^const VERSION = "(.*)";$'),
+    ("include/telgovan.h", r'^#define TELGOVAN_VERSION_TEXT "(.*)"$'),
 )
 # a file whose version is put in where it is installed or built, and the word that stands for it
 FILLED = (
@@ -73,6 +74,11 @@ class Version(unittest.TestCase):
         number = first << 16 | second << 8 | third
         self.assertIn(f"ensures {{ result ≡ {number} }}", text_of("crates/telgovan_c/src/version.rt"))
         self.assertEqual(ctypes.CDLL(LIBRARY).telgovan_version(), number)
+
+    def test_the_numbers_of_the_header(self):
+        header = text_of("include/telgovan.h")
+        for name, number in zip(("MAJOR", "MINOR", "PATCH"), VERSION.split(".")):
+            self.assertIn(f"\n#define TELGOVAN_VERSION_{name} {number}\n", header)
 
     def test_the_programs(self):
         told = f"{VERSION} ({WORDS})" if IS_UNPROVED else VERSION

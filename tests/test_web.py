@@ -14,6 +14,7 @@ from pathlib import Path
 
 import browsers
 from test_graphs import modelled
+from telgovan._refusals import REFUSALS
 
 PICTURES = os.environ.get("TELGOVAN_PICTURES", "")
 PROGRAMS = int(os.environ.get("TELGOVAN_PROGRAMS", "2000"))
@@ -30,6 +31,12 @@ LONG_SOURCE = "mov64 r0, 0\n" + "add64 r0, 1\n" * 4094 + "exit\n"
 LONG_WAY = """for (let n = 0; n < 100; n++) go_to(steps.at + 1);
     go_to(4096); go_to(0); go_to(2000);
     for (let n = 0; n < 100; n++) go_to(steps.at - 1);"""
+
+
+def advice_of(number):
+    """The table's advice for a refusal, as a sentence of the page."""
+    advice = REFUSALS[number][1].replace("`", "")
+    return f"{advice[0].upper()}{advice[1:]}."
 
 
 @unittest.skipUnless(BROWSER, "needs Debian's chromium or firefox-esr")
@@ -107,7 +114,7 @@ class Verdicts(InBrowser):
         self.assertEqual(self.text("verdict"), "refused 33: access out of the part at slot 2")
         self.assertEqual(self.marked_lines(), [5])
         told = self.text("explained").split("\n")
-        self.assertEqual(told[0], "rule: an access lies within the bytes of the part that the program needs")
+        self.assertEqual(told[0], "why: an access may leave the bytes of the part that the program needs")
         self.assertEqual(told[1:4], ["slot 2, line 5: ldxb r0, [r1+0]", "least need here: 16", "way: 0 1 2"])
         bad = "[...document.querySelectorAll('#flow .bad')].map((one) => one.textContent.trim())"
         self.assertEqual(self.tab.evaluate(bad), ["2  ldxb r0, [r1+0]"])
@@ -115,7 +122,7 @@ class Verdicts(InBrowser):
 
     def test_a_line_that_says_nothing_known(self):
         self.choose("refused: no such word")
-        self.assertEqual(self.text("verdict"), "refused 11 in line 2: an unknown word")
+        self.assertEqual(self.text("verdict"), "refused 11 in line 2: no instruction has this word")
         self.assertEqual(self.text("explained"), "mul65 r0, 2")
         self.assertEqual(self.marked_lines(), [2])
         self.picture("no_such_word")
@@ -190,10 +197,10 @@ class Runs(InBrowser):
         self.choose("Internet checksum")
         self.fill(credit="17")
         self.click("run")
-        self.assertEqual(self.text("verdict"), "refused 42: the credit is under the cost")
+        self.assertEqual(self.text("verdict"), "refused 42: the credit is under the program's cost")
         self.fill(credit="18", memory="00*9")
         self.click("run")
-        self.assertEqual(self.text("verdict"), "refused 43: the memory is shorter than the need")
+        self.assertEqual(self.text("verdict"), "refused 43: the memory is too short, or not as long as at the start")
 
 
 class Steps(InBrowser):

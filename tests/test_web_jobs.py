@@ -11,7 +11,7 @@ import unittest
 from jobs import Job, Program
 from programs import assemble
 from test_steps import drawn_job, value_text
-from test_web import InBrowser
+from test_web import InBrowser, advice_of
 from trees import Planter
 
 JOBS = int(os.environ.get("TELGOVAN_JOBS", "1000"))
@@ -518,9 +518,9 @@ class Verdicts(InJob):
         for programs, credit, buffer, told in (
                 ([(0, answer)], 1, "", "refused 63: the credit is under the cost of the root"),
                 ([(1, answer)], 2, "", "refused 64: the buffer is shorter than the need of the root"),
-                ([(0, answer)], 2**31, "", "refused 65: the credit or the buffer is over its limit"),
-                ([(0, answer)], 2, "00*65537", "refused 65: the credit or the buffer is over its limit"),
-                ([(0, answer), (0, "mov65 r0, 0\n")], 2, "", "program 1: refused 11 in line 1: an unknown word"),
+                ([(0, answer)], 2**31, "", "refused 65: a length or a credit is over its limit, or a room is too short"),
+                ([(0, answer)], 2, "00*65537", "refused 65: a length or a credit is over its limit, or a room is too short"),
+                ([(0, answer), (0, "mov65 r0, 0\n")], 2, "", "program 1: refused 11 in line 1: no instruction has this word"),
                 ([(0, answer), (0, "mov64 r0, 0\n")], 2, "", "program 1: refused 24: "),
                 ([(0, answer), ("x", answer)], 2, "", "program 1: the need is a number from 0 to 4294967295"),
                 ([(0, answer), (65537, answer)], 2, "", "program 1: refused 38"),
@@ -537,8 +537,8 @@ class Verdicts(InJob):
                 ([(0, answer)], 1, "", "Give the job a credit of at least 2."),
                 ([(1, answer)], 2, "", "Give the job a buffer of at least 1 byte."),
                 ([(0, answer)], 2**31, "", "Take a credit of at most 2,147,483,647, and a buffer of at most 65,536 bytes."),
-                ([(0, answer), (0, "mov65 r0, 0\n")], 2, "", "Take another word in this line."),
-                ([(0, answer), (0, "mov64 r0, 0\n")], 2, "", "End each path with exit."),
+                ([(0, answer), (0, "mov65 r0, 0\n")], 2, "", advice_of(11)),
+                ([(0, answer), (0, "mov64 r0, 0\n")], 2, "", advice_of(24)),
                 ([(0, answer), (3, "ldxb r0, [r1+4]\nexit\n")], 2, "", "To have it accepted, change the need of program 1 from 3 to 5."),
                 ([(0, answer), (65537, answer)], 2, "", "To have it accepted, change the need of program 1 from 65537 to 65536.")):
             with self.subTest(told):

@@ -12,7 +12,7 @@ import tempfile
 import unittest
 from pathlib import Path
 
-from test_web import PAGE, TOP, InBrowser
+from test_web import PAGE, TOP, InBrowser, advice_of
 from test_web_jobs import InJob
 
 sys.path.insert(0, str(TOP / "web"))
@@ -109,19 +109,18 @@ class Opening(InBrowser):
 
     def test_each_refusal_has_a_change(self):
         for source, need, status, told in (
-                ("mov64 r0, 1\nmul65 r0, 2\nexit", "0", 11, "Take another word"), ("mov64 r0\nexit", "0", 12, "Write the operands"),
-                ("mov64 r11, 0\nexit", "0", 13, "Take a register"), ("; nothing", "0", 1, "Write an instruction"),
-                ("ja +9\nexit", "0", 21, "Have the jump lead"), ("mov64 r0, 1", "0", 24, "End each path"),
-                ("mov64 r0, 0\nja -1", "0", 23, "Take out the jump"), ("mov64 r0, 1\nexit\nexit", "0", 25, "Take out the instruction"),
-                ("exit", "0", 31, "Set the register"), ("ldxb r0, [r10+0]\nexit", "0", 32, "Keep the access within the 512"),
-                ("mov64 r0, 1\nldxb r0, [r0+0]\nexit", "0", 34, "Read and write"),
-                ("mov64 r10, 1\nmov64 r0, 1\nexit", "0", 36, "Write another register"), ("call 9\nexit", "0", 37, "Call a helper"),
-                ("add64 r1, r2\nldxb r0, [r1+0]\nexit", "4", 33, "Keep the access within the need"),
+                ("mov64 r0, 1\nmul65 r0, 2\nexit", "0", 11, ""), ("mov64 r0\nexit", "0", 12, ""),
+                ("mov64 r11, 0\nexit", "0", 13, ""), ("; nothing", "0", 1, ""), ("ja +9\nexit", "0", 21, ""),
+                ("mov64 r0, 1", "0", 24, ""), ("mov64 r0, 0\nja -1", "0", 23, ""), ("mov64 r0, 1\nexit\nexit", "0", 25, ""),
+                ("exit", "0", 31, ""), ("ldxb r0, [r10+0]\nexit", "0", 32, ""), ("mov64 r0, 1\nldxb r0, [r0+0]\nexit", "0", 34, ""),
+                ("mov64 r10, 1\nmov64 r0, 1\nexit", "0", 36, ""), ("call 9\nexit", "0", 37, ""),
+                ("add64 r1, r2\nldxb r0, [r1+0]\nexit", "4", 33, ""),
                 ("mov64 r0, 0\nexit", "65537", 38, "To have it accepted, change the need from 65537 to 65536.")):
+            told = told or advice_of(status)
             with self.subTest(status):
                 self.tab.evaluate(f"show({json.dumps(source)}, {{ need: '{need}' }}); do_verify()")
                 self.assertTrue(self.text("verdict").startswith(f"refused {status}"), self.text("verdict"))
-                self.assertTrue(self.text("mend_told").startswith(told), self.text("mend_told"))
+                self.assertEqual(self.text("mend_told"), told)
                 self.assertFalse(self.is_hidden("mend"))
                 self.assertEqual(self.is_hidden("mend_it"), not told.startswith("To have it accepted"))
 

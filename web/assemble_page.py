@@ -69,6 +69,7 @@ def page(module: str) -> str:
         "/*STEPS*/": text("steps.js"),
         "/*JOB*/": text("job.js"),
         "/*JOB_TREE*/": text("job_tree.js"),
+        "/*REFUSALS*/": text("refusals.js"),
         "/*PAGE*/": text("page.js"),
         "/*JOB_PAGE*/": text("job_page.js"),
         "/*EXAMPLES*/[]": listed(examples),

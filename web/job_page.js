@@ -5,12 +5,6 @@
 const USUAL = { credit: "0", buffer: "", order: "turn", seed: "1", schedule: "" };
 const MOST_WRITTEN = 6000; // letters of a schedule in an address
 const OTHERS = 4; // other schedules whose answers are shown
-const JOB_WORDS = {
-    43: "a piece isn't there", 61: "no program", 62: "more than 16 programs",
-    63: "the credit is under the cost of the root", 64: "the buffer is shorter than the need of the root",
-    65: "the credit or the buffer is over its limit", 99: "no memory",
-};
-
 let job_run = null; // the job under way
 let chosen = 0; // the number of the task that is chosen
 
@@ -99,8 +93,8 @@ function assembled(programs) {
         const code = library.assemble(source);
         if (code.status) {
             const line = code.place === null ? "" : ` in line ${code.place}`;
-            const told = `program ${place}: refused ${code.status}${line}: ${WORDS[code.status] ?? ""}`;
-            throw new Refused(told, MENDS[code.status], place, code.place);
+            const told = `program ${place}: refused ${code.status}${line}: ${words_of(code.status)}`;
+            throw new Refused(told, advice_of(code.status), place, code.place);
         }
         const bytes = need.trim();
         if (!/^[0-9]{1,10}$/.test(bytes) || Number(bytes) >= 2 ** 32) {
@@ -120,11 +114,11 @@ function job_change(status, { need, code }) {
 }
 
 function refusal({ status, program, slot }, programs) {
-    if (program === null) return new Refused(`refused ${status}: ${JOB_WORDS[status] ?? ""}`, job_change(status, programs[0]));
+    if (program === null) return new Refused(`refused ${status}: ${words_of(status)}`, job_change(status, programs[0]));
     const { need, code, source, lines } = programs[program];
     const explanation = slot === null && status === 38 ? "" : library.explain(need, code, source).text;
     const other = need_of(status, explanation, code);
-    const change = other === null ? MENDS[status] : `To have it accepted, change the need of program ${program} from ${need} to ${other}.`;
+    const change = other === null ? advice_of(status) : `To have it accepted, change the need of program ${program} from ${need} to ${other}.`;
     const told = `program ${program}: ${explanation.split("\n")[0] || `refused ${status}`}`;
     return new Refused(told, change, program, lines.get(slot) ?? null);
 }

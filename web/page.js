@@ -7,12 +7,8 @@ const FIELDS = { need: "0", argument: "0", credit: "2147483647", memory: "" };
 const MOST_QUOTED = 200; // of a line that says nothing known
 const MOST_BYTES = 1 << 20; // the library refuses over 65,536
 const MOST_AT_ONCE = 512; // slots of a program whose graph is drawn unasked
-const WORDS = {
-    1: "no instruction", 2: "a length that is no multiple of 8", 3: "more than 4,096 slots",
-    11: "an unknown word", 12: "operands that aren't the word's", 13: "a number out of range",
-    42: "the credit is under the cost", 43: "the memory is shorter than the need", 65: "over a limit",
-    99: "no memory",
-};
+// What a refusal says.
+const words_of = (status) => REFUSALS[status]?.[0] ?? "";
 
 let library;
 let editor; // that of the program
@@ -117,7 +113,7 @@ function tell_memory(before, now) {
 
 function refused_text(code) {
     const where = code.place === null ? "" : ` in line ${code.place}`;
-    tell(`refused ${code.status}${where}: ${WORDS[code.status] ?? ""}`, "bad");
+    tell(`refused ${code.status}${where}: ${words_of(code.status)}`, "bad");
     tell_mend(code.status);
     const line = code.place === null ? "" : at("source").value.split("\n")[code.place - 1];
     at("explained").textContent = line.length > MOST_QUOTED ? `${line.slice(0, MOST_QUOTED)} ..` : line;
@@ -162,7 +158,7 @@ function draw_if_open() {
     if (!program || program.graph || at("graphs").hidden || !at("graphs").open) return;
     const { need, code, source } = program;
     const drawn = library.graph(need, code, source);
-    if (!drawn.text) throw new Error(`the graph: refused ${drawn.status}: ${WORDS[drawn.status] ?? ""}`);
+    if (!drawn.text) throw new Error(`the graph: refused ${drawn.status}: ${words_of(drawn.status)}`);
     program.graph = draw_graph(at("graph"), drawn.text);
     const { boxes, edges } = program.graph;
     at("graph_facts").textContent = `${counted(boxes.length, "block")}, ${counted(edges.length, "edge")}`;
@@ -250,7 +246,7 @@ function judge() {
     at("explained").textContent = others.join("\n").trimEnd();
     at("explained").hidden = !explanation;
     if (verdict.status) {
-        tell(first || `refused ${verdict.status}: ${WORDS[verdict.status] ?? ""}`, "bad");
+        tell(first || `refused ${verdict.status}: ${words_of(verdict.status)}`, "bad");
         tell_mend(verdict.status, need_of(verdict.status, explanation, code.bytes));
     } else {
         const slots = code.bytes.length / 8;
@@ -260,7 +256,7 @@ function judge() {
 }
 
 function refused_run(status) {
-    tell(`refused ${status}: ${WORDS[status] ?? ""}`, "bad", [["cost", program.verdict.cost]]);
+    tell(`refused ${status}: ${words_of(status)}`, "bad", [["cost", program.verdict.cost]]);
     const { need, verdict: { cost } } = program;
     tell_change({ 42: `Give it a credit of at least ${cost}.`, 43: `Give it a memory of at least ${counted(need, "byte")}.` }[status]);
 }

@@ -2,7 +2,7 @@
 //! --help` tells how.
 #![tactic(auto)]
 
-ghost use Rattle.std.specs.Prelude.{◌≤◌};
+ghost use Rattle.std.specs.Prelude.{◌≡◌, ◌≤◌};
 ghost use Rattle.machine_model.specs.Limits.{max_credit};
 
 use bpfjobs_cli::{Answer, FAILED, UNREAD, print_usage, tell, words};
@@ -10,9 +10,11 @@ use bpfrun_core::{
     RunArguments, RunOptions, answer, draw, form_of, request, step_lines, step_objects, trace,
 };
 use std::alloc::Global;
+use std::env::Env;
+use std::io::IsTerminal;
 use std::process::ExitCode;
 use std::rt::Files;
-use std::{fs, io};
+use std::{env, fs, io};
 use streams::Tap;
 
 // The bytes of a file; none, and a line that tells why, where it can't be read.
@@ -24,6 +26,38 @@ fn contents<R: Files + Eprint + AllocGlobal>(rt: &R, path: &str) -> Option<Vec<u
             None
         }
     }
+}
+
+// Prints a refusal where errors are printed, and gives its status.
+fn refused<R: Eprint>(rt: &R, answer: &Answer) -> u8 {
+    if let Ok(text) = str::from_utf8(&answer.text) {
+        let _ = eprint!(rt; "{text}");
+    }
+    answer.status
+}
+
+// Prints an answer, or a refusal, and gives the status.
+fn answered<R: Print + Eprint>(rt: &R, answer: &Answer) -> u8 {
+    if answer.status == 0 {
+        told(rt, answer)
+    } else {
+        refused(rt, answer)
+    }
+}
+
+// Prints a graph, also one of a program that is refused, or the refusal of what has none, and gives
+// the status.
+fn drawn<R: Print + Eprint>(rt: &R, answer: &Answer) -> u8 {
+    if answer.text.starts_with(b"digraph ") {
+        told(rt, answer)
+    } else {
+        refused(rt, answer)
+    }
+}
+
+// Whether errors may be coloured: a terminal shows them, and nobody asked for none.
+fn may_colour<R: Env + AllocGlobal>(rt: &R, is_terminal: bool) -> bool {
+    is_terminal && env::var(rt, "NO_COLOR").is_err()
 }
 
 // Prints an answer, and gives the status.
@@ -82,32 +116,42 @@ fn written<R: Files + Eprint>(rt: &R, path: &str, text: &str) -> bool {
     }
 }
 
-// Tries the program on its memory, prints what it comes to, and gives the status.
-fn tried<R: Files + Print + Eprint + AllocGlobal>(
-    rt: &R,
-    request: &RunArguments<'_>,
-    memory: Option<Vec<u8>>,
-) -> u8
-    requires { request.now.credit ≤ max_credit }
+// How the program is tried.
+fn asked_of<'a>(request: &RunArguments<'a>, is_coloured: bool) -> RunOptions<'a>
+    ensures { result.credit ≡ request.now.credit }
 {
-    let Some(input) = contents(rt, request.file) else {
-        return FAILED;
-    };
-    let asked = RunOptions {
+    RunOptions {
+        file: request.file,
         form: form_of(request.file),
         need: request.need,
         arg: request.arg,
         credit: request.credit,
         explains: request.explains,
         explains_all: request.explains_all,
+        is_coloured,
+    }
+}
+
+// Tries the program on its memory, prints what it comes to, and gives the status.
+fn tried<R: Files + Print + Eprint + AllocGlobal>(
+    rt: &R,
+    request: &RunArguments<'_>,
+    memory: Option<Vec<u8>>,
+    is_coloured: bool,
+) -> u8
+    requires { request.now.credit ≤ max_credit }
+{
+    let Some(input) = contents(rt, request.file) else {
+        return FAILED;
     };
+    let asked = asked_of(request, is_coloured);
     let lent: Option<&[u8]> = match &memory {
         Some(bytes) => Some(bytes),
         None => None,
     };
     if request.draws {
         return match draw(rt.alloc(), &asked, &input, lent) {
-            Ok(answer) => told(rt, &answer),
+            Ok(answer) => drawn(rt, &answer),
             Err(_) => FAILED,
         };
     }
@@ -117,20 +161,34 @@ fn tried<R: Files + Print + Eprint + AllocGlobal>(
         }
     }
     match answer(rt.alloc(), &asked, &input, memory) {
-        Ok(answer) => told(rt, &answer),
+        Ok(answer) => answered(rt, &answer),
         Err(_) => FAILED,
     }
 }
 
+// Tells how numbers are written, where a word is a hexadecimal one.
+fn help_with_numbers<R: Eprint>(rt: &R, words: &[String]) {
+    for word in words {
+        if word.as_str().starts_with("0x") {
+            let _ = eprintln!(rt; "help: numbers are decimal: 16, and not 0x10");
+            return;
+        }
+    }
+}
+
 // Does what the words ask for, and gives the status.
-fn act<R: Files + Print + Eprint + AllocGlobal>(rt: &R, request: &RunArguments<'_>) -> u8
+fn act<R: Files + Print + Eprint + AllocGlobal>(
+    rt: &R,
+    request: &RunArguments<'_>,
+    is_coloured: bool,
+) -> u8
     requires { request.now.credit ≤ max_credit }
 {
     let Some(path) = request.memory else {
-        return tried(rt, request, None);
+        return tried(rt, request, None, is_coloured);
     };
     match contents(rt, path) {
-        Some(memory) => tried(rt, request, Some(memory)),
+        Some(memory) => tried(rt, request, Some(memory), is_coloured),
         None => FAILED,
     }
 }
@@ -140,8 +198,15 @@ fn main(rt: HostRuntime) -> ExitCode {
         return ExitCode::from(UNREAD);
     };
     let status = match request(rt.alloc(), &words) {
-        Ok(request) => act(&rt, &request),
-        Err(usage) => print_usage(&rt, usage),
+        Ok(request) => {
+            let is_coloured = may_colour(&rt, rt.stderr().is_terminal());
+            act(&rt, &request, is_coloured)
+        }
+        Err(usage) => {
+            let status = print_usage(&rt, usage);
+            help_with_numbers(&rt, &words);
+            status
+        }
     };
     ExitCode::from(status)
 }

@@ -4,7 +4,6 @@ use Rattle.std.proofs.Math.ListN.{replicate}
 use Rattle.machine_model.specs.Limits.{max_part}
 use Rattle.helpers.specs.Table.{job_table}
 use Rattle.verifier.specs.declared.refusals.Refusal.{Refusal}
-use Rattle.verifier.specs.Refusals.{RefusesProgram}
 use Rattle.bpfjobs_cli.specs.Printed.{Prints}
 use Rattle.explain.specs.declared.explanation.Explanation.{Explanation}
 use Rattle.explain.specs.declared.lines.SourceLine.{SourceLine}
@@ -13,7 +12,6 @@ use Rattle.explain.specs.Lines.{numbered_text}
 use Rattle.bpfrun_core.specs.declared.answering.RunOptions.{RunOptions}
 use Rattle.bpfrun_core.specs.declared.fault.RunFault.{RunFault}
 use Rattle.bpfrun_core.specs.declared.fault.RunFault.TheVariants as fault
-use Rattle.bpfrun_core.specs.declared.form.FileForm.{FileForm}
 use Rattle.bpfrun_core.specs.Forms.{IsRead, IsUnread}
 use Rattle.bpfrun_core.specs.FaultLines.{IsFaultPlace, IsQuote}
 use Rattle.bpfrun_core.specs.Printed.{IsRefusalText, ran_text}
@@ -35,14 +33,14 @@ abbrev pub shown_memory : Bool → List ℕ → Option (List ℕ)
 shown_memory is_shown left = if is_shown then Some left else None
 
 -- The lines of the refusal, with what it quotes and the place that it is about.
-pub record PrintsRefusal (form : FileForm) (input code : List ℕ) (why : RunFault) (text : List ℕ)
+pub record PrintsRefusal (asked : RunOptions) (input code : List ℕ) (why : RunFault) (text : List ℕ)
     (status : ℕ) : Type 0 where
   pub lasting : why ≢ fault.NoMemory
   pub quote : Option (List ℕ)
   pub quotes : IsQuote why input quote
   pub place : Option SourceLine
-  pub about : IsFaultPlace form why input code place
-  pub lines : IsRefusalText why quote (option_map numbered_text place) text
+  pub about : IsFaultPlace asked.form why input code place
+  pub lines : IsRefusalText asked.file.now why quote (option_map numbered_text place) text
   pub one : status ≡ 1
 
 -- some instructions aren't allowed, or the program has no graph, and that is explained
@@ -52,14 +50,12 @@ pub record AreExplained (need : ℕ) (code : List ℕ) : Type 0 where
   pub told : AreTold need code job_table source list
   pub some : list ≢ []
 
--- The verifier's refusal is told, or explained, or each instruction that isn't allowed is.
+-- The verifier's refusal is told, or each instruction that isn't allowed is explained.
 pub data IsRejected (asked : RunOptions) (need : ℕ) (input code : List ℕ) (why : Refusal)
     (text : List ℕ)
     (status : ℕ) : Type 0 where
-  declined : PrintsRefusal asked.form input code (fault.Program why) text status
+  declined : PrintsRefusal asked input code (fault.Program why) text status
       → IsRejected asked need input code why text status
-  explained : asked.explains ≡ true → (other : Refusal) → RefusesProgram need code job_table other
-      → status ≡ 1 → IsRejected asked need input code why text status
   all_explained : asked.explains_all ≡ true → AreExplained need code → status ≡ 1
       → IsRejected asked need input code why text status
 
@@ -73,7 +69,7 @@ pub data IsJudged (asked : RunOptions) (need : ℕ) (input code old left : List 
       → IsRejected asked need input code why text status
       → IsJudged asked need input code old left is_shown text status
   stopped : (why : RunFault) → IsStopped need code asked.credit old why → left ≡ old
-      → PrintsRefusal asked.form input code why text status
+      → PrintsRefusal asked input code why text status
       → IsJudged asked need input code old left is_shown text status
 
 -- What is answered to a program as its file has it.
@@ -83,5 +79,5 @@ pub data IsTried (asked : RunOptions) (need : ℕ) (input old left : List ℕ) (
       → IsJudged asked need input code old left is_shown text status
       → IsTried asked need input old left is_shown text status
   unread : (why : RunFault) → IsUnread asked.form input why → left ≡ old
-      → PrintsRefusal asked.form input [] why text status
+      → PrintsRefusal asked input [] why text status
       → IsTried asked need input old left is_shown text status

@@ -36,5 +36,5 @@ pub data IsDrawn (asked : RunOptions) (need : ℕ) (input text : List ℕ) (stat
   read : (code : List ℕ) → IsRead asked.form input code
       → IsDrawnCode asked need input code text status → IsDrawn asked need input text status
   unread : (why : RunFault) → IsUnread asked.form input why
-      → PrintsRefusal asked.form input [] why text status
+      → PrintsRefusal asked input [] why text status
       → IsDrawn asked need input text status

@@ -2,17 +2,18 @@
 
 ghost use Rattle.std.specs.Prelude.{◌≡◌, ◌≢◌, ◌≤◌, List, ℕ, Bool, option_map, is_some, true, IfOk, IfSome};
 ghost use Rattle.helpers.specs.Table.{job_table};
-ghost use Rattle.verifier.specs.Refusals.{RefusesProgram};
 ghost use Rattle.bpfrun_core.specs.Answered.{AreExplained, PrintsRefusal, IsJudged, IsRejected, IsTried, need_of, starting_memory};
 ghost use Rattle.bpfrun_core.specs.declared.fault.RunFault.TheVariants as fault_variant;
 ghost use Rattle.machine_model.specs.Limits.{max_credit};
 
 use crate::fault::RunFault;
 use crate::form::FileForm;
+use crate::helping::help_of;
+use crate::noting::{notes_of, words_of};
 use crate::place::{place_of, quote_of};
 use crate::reading::{bytes_of, source_of};
 use crate::running::run;
-use crate::telling::{tell_refusal, tell_run};
+use crate::telling::{tell_refusal, tell_run, words_of_fault};
 use bpfjobs_cli::Answer;
 use explain::{Explanation, explain, explain_all};
 use helpers::HelperTable;
@@ -23,7 +24,9 @@ use verifier::Refusal;
 
 /// How a program is tried.
 #[derive(Clone, Copy, Debug, PartialEq, Eq)]
-pub struct RunOptions {
+pub struct RunOptions<'a> {
+    /// The path of the program.
+    pub file: &'a str,
     pub form: FileForm,
     /// How many bytes of its part it needs; if that isn't said, all of its memory, and none without
     /// one.
@@ -34,6 +37,8 @@ pub struct RunOptions {
     pub explains: bool,
     /// Each instruction that isn't allowed is to be explained.
     pub explains_all: bool,
+    /// What is wrong is red on a terminal.
+    pub is_coloured: bool,
 }
 
 // The need that holds.
@@ -49,40 +54,22 @@ pub(crate) fn need_of(need: Option<u32>, memory: Option<&[u8]>) -> u32
     }
 }
 
-// Why the verifier refuses a program; none where it doesn't.
-fn explain_refusal(
+// The reports, with an empty line between two.
+fn text_of(
     alloc: Global,
-    form: FileForm,
+    asked: &RunOptions<'_>,
     need: u32,
     input: &[u8],
     code: &[u8],
-) -> Result<Option<Answer>, NoMemory>
-    ensures { IfOk result (λ told. IfSome told (λ answer. ((why : Refusal)
-        × RefusesProgram need code.now job_table why) × (answer.status ≡ 1))) }
-{
-    match explain(
-        alloc,
-        need,
-        code,
-        &HelperTable::job(),
-        source_of(form, input),
-    )? {
-        Some(explanation) => Ok(Some(Answer {
-            text: format!(in alloc; "{explanation}")?.into_bytes(),
-            status: 1,
-        })),
-        None => Ok(None),
-    }
-}
-
-// The explanations, with an empty line between two.
-fn text_of(alloc: Global, list: &[Explanation]) -> Result<String, NoMemory> {
-    let mut text = String::new(alloc);
+    list: &[Explanation],
+) -> Result<Vec<u8>, NoMemory> {
+    let mut text = Vec::new(alloc);
     for why in list {
         if !text.is_empty() {
-            text.push('\n')?;
+            text.push(b'\n')?;
         }
-        text.push_str(format!(in alloc; "{why}")?.as_str())?;
+        let answer = print_explained(alloc, asked, need, input, code, why.refusal, why)?;
+        text.extend_from_slice(&answer.text)?;
     }
     Ok(text)
 }
@@ -90,7 +77,7 @@ fn text_of(alloc: Global, list: &[Explanation]) -> Result<String, NoMemory> {
 // Why each instruction isn't allowed that isn't; none where all are.
 fn explain_faults(
     alloc: Global,
-    form: FileForm,
+    asked: &RunOptions<'_>,
     need: u32,
     input: &[u8],
     code: &[u8],
@@ -103,38 +90,87 @@ fn explain_faults(
         need,
         code,
         &HelperTable::job(),
-        source_of(form, input),
+        source_of(asked.form, input),
     )?;
     if list.is_empty() {
         return Ok(None);
     }
     Ok(Some(Answer {
-        text: text_of(alloc, &list)?.into_bytes(),
+        text: text_of(alloc, asked, need, input, code, &list)?,
         status: 1,
     }))
 }
 
-// The lines of a refusal.
+// The lines of a refusal, with these words and these notes.
+fn print_report(
+    alloc: Global,
+    asked: &RunOptions<'_>,
+    input: &[u8],
+    code: &[u8],
+    fault: &RunFault,
+    words: &str,
+    notes: &[String],
+) -> Result<Answer, NoMemory>
+    requires { fault.now ≢ fault_variant.NoMemory }
+    ensures { IfOk result
+        (λ answer. PrintsRefusal asked.now input.now code.now fault.now answer.text.items
+        answer.status) }
+{
+    let place = place_of(alloc, asked.form, input, code, fault)?;
+    tell_refusal(
+        alloc,
+        asked,
+        fault,
+        words,
+        quote_of(input, fault),
+        place,
+        notes,
+    )
+}
+
+// The lines of a refusal that isn't explained.
 pub(crate) fn print_refusal(
     alloc: Global,
-    form: FileForm,
+    asked: &RunOptions<'_>,
     input: &[u8],
     code: &[u8],
     fault: &RunFault,
 ) -> Result<Answer, NoMemory>
     requires { fault.now ≢ fault_variant.NoMemory }
     ensures { IfOk result
-        (λ answer. PrintsRefusal form input.now code.now fault.now answer.text.items
+        (λ answer. PrintsRefusal asked.now input.now code.now fault.now answer.text.items
         answer.status) }
 {
-    let place = place_of(alloc, form, input, code, fault)?;
-    tell_refusal(alloc, fault, quote_of(input, fault), place)
+    let words = words_of_fault(alloc, fault)?;
+    let help = help_of(alloc, input, fault, quote_of(input, fault))?;
+    let mut notes = Vec::new(alloc);
+    notes.push(format!(in alloc; "help: {}", help.as_str())?)?;
+    print_report(alloc, asked, input, code, fault, words.as_str(), &notes)
+}
+
+// The lines of an explanation.
+fn print_explained(
+    alloc: Global,
+    asked: &RunOptions<'_>,
+    need: u32,
+    input: &[u8],
+    code: &[u8],
+    refusal: Refusal,
+    why: &Explanation,
+) -> Result<Answer, NoMemory>
+    ensures { IfOk result (λ answer. PrintsRefusal asked.now input.now code.now
+        (fault_variant.Program refusal) answer.text.items answer.status) }
+{
+    let words = words_of(alloc, need, why)?;
+    let notes = notes_of(alloc, asked, input, code, why)?;
+    let fault = RunFault::Program(refusal);
+    print_report(alloc, asked, input, code, &fault, words.as_str(), &notes)
 }
 
 // What is answered where the verifier refuses a program.
 pub(crate) fn answer_refusal(
     alloc: Global,
-    asked: &RunOptions,
+    asked: &RunOptions<'_>,
     need: u32,
     input: &[u8],
     code: &[u8],
@@ -145,22 +181,21 @@ pub(crate) fn answer_refusal(
         answer.status) }
 {
     if asked.explains_all {
-        if let Some(answer) = explain_faults(alloc, asked.form, need, input, code)? {
+        if let Some(answer) = explain_faults(alloc, asked, need, input, code)? {
             return Ok(answer);
         }
     }
-    if asked.explains {
-        if let Some(answer) = explain_refusal(alloc, asked.form, need, input, code)? {
-            return Ok(answer);
-        }
+    let source = source_of(asked.form, input);
+    match explain(alloc, need, code, &HelperTable::job(), source)? {
+        Some(why) => print_explained(alloc, asked, need, input, code, refusal, &why),
+        None => print_refusal(alloc, asked, input, code, &RunFault::Program(refusal)),
     }
-    print_refusal(alloc, asked.form, input, code, &RunFault::Program(refusal))
 }
 
 // What is answered to the bytes of a program.
 fn answer_code(
     alloc: Global,
-    asked: &RunOptions,
+    asked: &RunOptions<'_>,
     need: u32,
     input: &[u8],
     code: &[u8],
@@ -177,14 +212,14 @@ fn answer_code(
         Ok(done) => tell_run(alloc, done, None),
         Err(RunFault::NoMemory) => Err(NoMemory),
         Err(RunFault::Program(refusal)) => answer_refusal(alloc, asked, need, input, code, refusal),
-        Err(fault) => print_refusal(alloc, asked.form, input, code, &fault),
+        Err(fault) => print_refusal(alloc, asked, input, code, &fault),
     }
 }
 
 // What is answered to a program with this memory, which is shown or not.
 fn answer_input(
     alloc: Global,
-    asked: &RunOptions,
+    asked: &RunOptions<'_>,
     need: u32,
     input: &[u8],
     memory: &mut [u8],
@@ -198,7 +233,7 @@ fn answer_input(
     match bytes_of(alloc, asked.form, input) {
         Ok(code) => answer_code(alloc, asked, need, input, &code, memory, is_shown),
         Err(RunFault::NoMemory) => Err(NoMemory),
-        Err(fault) => print_refusal(alloc, asked.form, input, &[], &fault),
+        Err(fault) => print_refusal(alloc, asked, input, &[], &fault),
     }
 }
 
@@ -207,7 +242,7 @@ fn answer_input(
 /// without a need it needs the whole memory. The call asks for a credit of at most 2,147,483,647.
 pub fn answer(
     alloc: Global,
-    asked: &RunOptions,
+    asked: &RunOptions<'_>,
     input: &[u8],
     memory: Option<Vec<u8>>,
 ) -> Result<Answer, NoMemory>

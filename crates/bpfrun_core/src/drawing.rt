@@ -28,7 +28,7 @@ fn status_of(picture: &Picture) -> u8
 // What is drawn of the bytes of a program.
 fn draw_code(
     alloc: Global,
-    asked: &RunOptions,
+    asked: &RunOptions<'_>,
     need: u32,
     input: &[u8],
     code: &[u8],
@@ -52,7 +52,7 @@ fn draw_code(
 /// [`answer`](crate::answer) tells where a program has no graph.
 pub fn draw(
     alloc: Global,
-    asked: &RunOptions,
+    asked: &RunOptions<'_>,
     input: &[u8],
     memory: Option<&[u8]>,
 ) -> Result<Answer, NoMemory>
@@ -64,6 +64,6 @@ pub fn draw(
     match bytes_of(alloc, asked.form, input) {
         Ok(code) => draw_code(alloc, asked, need, input, &code),
         Err(RunFault::NoMemory) => Err(NoMemory),
-        Err(fault) => print_refusal(alloc, asked.form, input, &[], &fault),
+        Err(fault) => print_refusal(alloc, asked, input, &[], &fault),
     }
 }

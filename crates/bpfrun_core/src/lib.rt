@@ -20,6 +20,8 @@ pub use place::{place_of, quote_of};
 
 // what is printed
 mod answering;
+mod helping;
+mod noting;
 mod telling;
 
 pub use answering::{RunOptions, answer};

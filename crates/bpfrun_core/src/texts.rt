@@ -5,8 +5,9 @@ pub(crate) const BPFRUN: &str =
 
 pub(crate) const BPFRUN_MORE: &str =
     "Writes R0, what the run spent of the credit, and, where a memory is given, that memory behind
-the run, in hexadecimal. A program that is refused is told with the number of the refusal and,
-where it is text, with its line.
+the run, in hexadecimal. A program that is refused is told on standard error: the number of the
+refusal, what is wrong, where it is text its line, what is known there, and what helps. On a terminal
+what is wrong is red, unless NO_COLOR is set.
 Status: 0 ran, or drawn and accepted; 1 refused; 2 wrong words; 3 where input or output fails, or there is no memory.
 
 Example:
@@ -14,8 +15,14 @@ Example:
   r0 0
   spent 4
   $ bpfrun examples/byte_at.bpf --need 15
-  refused 33: access out of the part at slot 2
-  line 5: ldxb r0, [r1+0]";
+  error[33]: this load may leave the 15 bytes that the program may count on
+   --> examples/byte_at.bpf:5
+    |
+  5 | ldxb r0, [r1+0]
+    |          ^^^^^^
+    = at: slot 2
+    = known: r1 part+0 to +15
+    = help: --need 16";
 
 pub(crate) const FILE: &str =
     "The program: source text (.bpf), hexadecimal (.hex), or its bytes (any other name)";
@@ -35,7 +42,8 @@ pub(crate) const TRACE: &str =
 
 pub(crate) const TRACE_JSON: &str = "Writes the same into a file, a JSON object a line";
 
-pub(crate) const EXPLAIN: &str = "Explains why the verifier refuses the program";
+pub(crate) const EXPLAIN: &str =
+    "Tells of a refusal of the verifier each register, and a way there";
 
 pub(crate) const EXPLAIN_ALL: &str =
     "Explains each instruction that isn't allowed, but for those behind another one";

@@ -40,7 +40,7 @@ fn part_of(alloc: Global, need: Option<u32>, memory: Option<&[u8]>) -> Result<Ve
 /// has more than 64 bits.
 pub fn trace(
     alloc: Global,
-    asked: &RunOptions,
+    asked: &RunOptions<'_>,
     input: &[u8],
     memory: Option<&[u8]>,
 ) -> Result<Option<Trace>, Unanswered>

@@ -3,6 +3,9 @@ pub mod Ways
 pub mod Leading
 pub mod Arriving
 pub mod Needs
+pub mod RefusalTexts
+pub mod RefusalWords
+pub mod Reports
 pub mod Texts
 pub mod Refused
 pub mod Told

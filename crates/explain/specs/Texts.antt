@@ -11,11 +11,11 @@ use Rattle.value_ranges.specs.declared.abs.Abs.{Abs}
 use Rattle.value_ranges.specs.declared.abs.Abs.TheVariants.{Unset, Num, Stack, Part}
 use Rattle.instruction_rules.specs.declared.state.AbsState.{AbsState}
 use Rattle.instruction_rules.specs.Covers.{abs_at}
-use Rattle.verifier.specs.declared.refusals.Refusal.{Refusal}
-use Rattle.verifier.specs.declared.refusals.Refusal.TheVariants.{NeedTooLarge, Codec, Flow, UnsetRead, OutOfStack, OutOfPart, BadKind, PointerRange, FramePointer, NoHelper, NoMemory}
+use Rattle.verifier.specs.RefusalCodes.{code_of_refusal}
 use Rattle.explain.specs.declared.explanation.Explanation.{Explanation}
 use Rattle.explain.specs.declared.needs.Enough.{Enough}
 use Rattle.explain.specs.declared.needs.Enough.TheVariants.{From, Never}
+use Rattle.explain.specs.RefusalWords.{refusal_words}
 use Rattle.explain.specs.declared.explanation.RefusalContext.{RefusalContext}
 use Rattle.explain.specs.declared.explanation.InstructionPlace.{InstructionPlace}
 
@@ -95,26 +95,6 @@ instruction_place_text place = codes "slot "
     ++ (decimal place.slot ++ (line_part place.line
     ++ (codes ": " ++ string_bytes place.text)))
 
--- the rule that a refusal tells of, in a sentence
-abbrev pub rule_text : Refusal → List ℕ
-rule_text NeedTooLarge = codes "a program needs at most 65536 bytes"
-rule_text (Codec fault) =
-    codes "the bytes are 1 to 4096 slots, each as the table of instructions has it"
-rule_text (Flow fault) =
-    codes "each edge leads to an instruction of the program and no path leads back, and each instruction is reached"
-rule_text (UnsetRead slot) =
-    codes "a register that is read is set on every way to the instruction"
-rule_text (OutOfStack slot) = codes "an access lies within the 512 bytes of the stack"
-rule_text (OutOfPart slot) =
-    codes "an access lies within the bytes of the part that the program needs"
-rule_text (BadKind slot) =
-    codes "a number stands where one is wanted, a pointer where an address is, and a length is at most 512"
-rule_text (PointerRange slot) =
-    codes "a pointer moves at most 1048576 bytes from its region's first"
-rule_text (FramePointer slot) = codes "R10 is not written"
-rule_text (NoHelper slot) = codes "a helper that is called is in the table"
-rule_text NoMemory = codes "out of memory"
-
 -- a line for the place, where there is one
 abbrev pub place_line : Option InstructionPlace → List ℕ
 place_line None = []
@@ -124,9 +104,9 @@ abbrev pub known_lines : Option RefusalContext → List ℕ
 known_lines None = []
 known_lines (Some known) = state_text known
 
--- the rule that is broken, the instruction with its line, and what is known there
+-- what is wrong, the instruction with its line, and what is known there
 abbrev pub reason_text : Explanation → List ℕ
-reason_text why = codes "rule: " ++ (rule_text why.refusal ++ (codes "\n"
+reason_text why = codes "why: " ++ (refusal_words (code_of_refusal why.refusal) ++ (codes "\n"
     ++ (place_line why.place ++ known_lines why.known)))
 
 -- the refusal in some words, and the reason

@@ -5,7 +5,7 @@ ghost use Rattle.explain.specs.Texts.{IsTextOf};
 
 use crate::needs::Enough;
 use crate::registers::RegisterLines;
-use crate::rules::rule;
+use crate::wording::refusal_words;
 use refusal::NoMemory;
 use std::alloc::Global;
 use std::fmt;
@@ -32,8 +32,8 @@ pub struct RefusalContext {
     pub enough: Option<Enough>,
 }
 
-/// Why a program is refused. Its text tells the rule that is broken, and of one instruction that
-/// breaks it the line of the source, if there is one, the least need where it leaves the part, a
+/// Why a program is refused. Its text tells what is wrong, and of one instruction of which that holds
+/// the line of the source, if there is one, the least need where it leaves the part, a
 /// way from slot 0 there, and what is known of each register ahead of it.
 #[derive(Drop)]
 pub struct Explanation {
@@ -145,7 +145,7 @@ impl<'a> fmt::Display for KnownLines<'a> {
     }
 }
 
-/// The text of an explanation behind its refusal: the rule, the place and what is known there.
+/// The text of an explanation behind its refusal: what is wrong, the place and what is known there.
 #[derive(Clone, Copy)]
 struct Reason<'a>(&'a Explanation);
 
@@ -158,7 +158,8 @@ impl<'a> fmt::Display for Reason<'a> {
     fn fmt<W: fmt::Write>(&self, f: &mut fmt::Formatter<W>) -> fmt::Result {
         let why = self.0;
         let (place, known) = (PlaceLine(&why.place), KnownLines(&why.known));
-        write!(f, "rule: {}\n{place}{known}", rule(&why.refusal))
+        let words = refusal_words(why.refusal.code());
+        write!(f, "why: {words}\n{place}{known}")
     }
 }
 

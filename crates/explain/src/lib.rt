@@ -1,4 +1,4 @@
-//! Why a program is refused: the instruction, the rule that it breaks, a way that leads there and
+//! Why a program is refused: the instruction, what is wrong with it, a way that leads there and
 //! what is known of each register there, as a value and as text.
 #![tactic(auto)]
 
@@ -6,11 +6,19 @@
 mod explaining;
 mod explanation;
 mod faults;
-mod rules;
 
 pub use explaining::explain;
 pub use explanation::{Explanation, InstructionPlace, RefusalContext, text_of};
 pub use faults::explain_all;
+
+// what is wrong and what to do, by the number of a refusal
+mod refusal_texts;
+mod report;
+mod wording;
+
+pub use refusal_texts::{refusal_help, refusal_text};
+pub use report::{LineMark, RefusalReport, report_text};
+pub use wording::refusal_words;
 
 // what leads to a slot, and what is known there
 mod arriving;

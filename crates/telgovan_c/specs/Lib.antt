@@ -11,6 +11,7 @@ pub mod JobTraces
 pub mod Jobs
 pub mod Programs
 pub mod Runs
+pub mod Statuses
 pub mod Tasks
 pub mod Texts
 pub mod Traces

@@ -23,6 +23,7 @@ mod parts;
 mod program_handle;
 mod programs;
 mod runs;
+mod statuses;
 mod task_handle;
 mod tasks;
 mod texts;
@@ -50,6 +51,7 @@ pub use programs::{
     telgovan_program_share, telgovan_program_unload,
 };
 pub use runs::{Run, RunOutcome, telgovan_burst, telgovan_run};
+pub use statuses::{telgovan_status_help, telgovan_status_words};
 pub use task_handle::TaskHandle;
 pub use tasks::{TaskEvent, telgovan_task_drop, telgovan_task_go, telgovan_task_start};
 pub use texts::{Written, telgovan_assemble, telgovan_disassemble};
