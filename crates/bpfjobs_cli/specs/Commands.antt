@@ -1,8 +1,7 @@
 -- The command that a subcommand and its matches are.
-use Rattle.std.specs.Prelude.{◌≡◌, ◌==◌, ◌↔◌, ◌⊎◌, ℕ, ◌≤◌, ◌<◌, ◌^◌, if◌then◌else◌, IfSome, Bool, IsTrue, List, [], codes, Ok, unwrap_or, Option, Some, None, is_some, option_and_then, option_map, String, string_bytes, false, true}
+use Rattle.std.specs.Prelude.{◌≡◌, ◌≢◌, ◌==◌, ◌↔◌, ◌⊎◌, ℕ, ◌≤◌, ◌<◌, ◌^◌, if◌then◌else◌, IfSome, Bool, IsTrue, List, [], codes, Ok, unwrap_or, Option, Some, None, is_some, option_and_then, option_map, String, string_bytes, false, true}
 use Rattle.std.specs.declared.alloc.Global.{Global}
 use Rattle.std.specs.Borrow.{Bor}
-use Rattle.std.specs.Str.{bytes_eq}
 use Rattle.std.specs.Str.Parse.{IsNumeral, digits_value, without_leading_plus}
 use Rattle.clap.specs.Faults.{fault_of}
 use Rattle.clap.specs.Words.{HasKind, Row, Text, all_of, first_of, kind_of, one_of, subcommand_of, takes}
@@ -256,14 +255,12 @@ IsCommandOf name rows (Journal path checks) =
     × IsFlagOf rows (codes "check") checks
 IsCommandOf name rows (Ask ask) = (name ≡ codes "ask") × IsAskOf rows ask
 
--- the file of a command's words. A `-` is the standard input.
-abbrev pub input_named : Option Text → Option Text
-input_named None = None
-input_named (Some word) = if bytes_eq word (codes "-") then None else Some word
-
+-- the file that a command reads: none where the words name none, or `-`, the standard input
 abbrev pub IsInputOf : List Row → Option (Bor Text) → Type 0
-IsInputOf rows input =
-    option_map (λ path. path.now) input ≡ input_named (first_of (codes "input") rows)
+IsInputOf rows None =
+    (first_of (codes "input") rows ≡ None) ⊎ (first_of (codes "input") rows ≡ Some (codes "-"))
+IsInputOf rows (Some path) =
+    (first_of (codes "input") rows ≡ Some path.now) × (path.now ≢ codes "-")
 
 -- what is shown beside the answer
 pub record IsShownOf (rows : List Row) (shown : Shown) : Type 0 where

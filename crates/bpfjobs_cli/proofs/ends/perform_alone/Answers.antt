@@ -17,12 +17,3 @@ pub returns-in_err-answer-clause-stopped : goal.returns-in_err-answer-clause-sto
 returns-in_err-answer-clause-stopped g c =
     let p = err_from_is_err_and c.from_residual-in_err-answer.result c.from_residual-in_err-answer.ensures.1 in
     rw p.1 (rw p.2 (c.in_ok-input.input.items, c.in_ok-input.ensures.told, refl))
-
-pub returns-clause-stopped : goal.returns-clause-stopped
-returns-clause-stopped g c =
-    let answers = rw c.deref.ensures.value at c.in_ok-answer.ensures in
-    IfErr-weaker c.tell.result _ _ (λ fault told. (
-      c.in_ok-input.input.items,
-      c.in_ok-input.ensures.told,
-      given_up_late fault _ _ _ _ c.in_ok-answer.answer.text.items c.in_ok-answer.answer.status c.in_ok-input.ensures.over answers told,
-    )) c.tell.ensures.err
