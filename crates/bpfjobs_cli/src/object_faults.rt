@@ -139,6 +139,24 @@ fn wrong_part(alloc: Global, value: &Value, wants_schedule: bool) -> ObjectPart 
     ObjectPart::Object
 }
 
+// The first part of a text that is JSON, and no job object, that is wrong.
+fn wrong_in(alloc: Global, text: &[u8], wants_schedule: bool) -> Result<ObjectPart, NoMemory> {
+    match Value::from_slice(alloc, text) {
+        Ok(value) => Ok(wrong_part(alloc, &value, wants_schedule)),
+        Err(error) if error.classify() == Category::Memory => Err(NoMemory),
+        Err(_) => Ok(ObjectPart::Object),
+    }
+}
+
+// The line and the column from which on a text is no JSON.
+fn end_of_json(alloc: Global, text: &[u8]) -> Result<(usize, usize), NoMemory> {
+    match Value::from_slice(alloc, text) {
+        Ok(_) => Ok((0, 0)),
+        Err(error) if error.classify() == Category::Memory => Err(NoMemory),
+        Err(error) => Ok((error.line(), error.column())),
+    }
+}
+
 /// The reason why a text is no job object, with a schedule where one is wanted; none where it is one.
 pub fn object_fault(
     alloc: Global,
@@ -148,20 +166,20 @@ pub fn object_fault(
     ensures { IfOk result (λ found. MatchOption found (IsJobText wants_schedule text.now)
         (λ fault. IsNoJobText wants_schedule text.now fault)) }
 {
-    match job_object(alloc, text, wants_schedule) {
+    let fault = match job_object(alloc, text, wants_schedule) {
         Ok(_) => return Ok(None),
-        Err(SessionFault::NoMemory) => return Err(NoMemory),
-        Err(_) => {}
-    }
-    match Value::from_slice(alloc, text) {
-        Ok(value) => {
-            let part = wrong_part(alloc, &value, wants_schedule);
+        Err(fault) => fault,
+    };
+    match fault {
+        SessionFault::BadRequest => {
+            let part = wrong_in(alloc, text, wants_schedule)?;
             Ok(Some(ObjectFault::Wrong(part)))
         }
-        Err(error) if error.classify() == Category::Memory => Err(NoMemory),
-        Err(error) => Ok(Some(ObjectFault::NotJson {
-            line: error.line(),
-            column: error.column(),
-        })),
+        SessionFault::NotJson => {
+            let (line, column) = end_of_json(alloc, text)?;
+            Ok(Some(ObjectFault::NotJson { line, column }))
+        }
+        SessionFault::NoMemory => Err(NoMemory),
+        SessionFault::FrameTooLarge => unreachable!(),
     }
 }
