@@ -127,7 +127,8 @@ class Resources(Starts):
             except (ConnectionRefusedError, FileNotFoundError):
                 status = process.wait(PATIENCE)
                 if status == 3:
-                    self.assertRegex(read(told.name).decode(), r"bpfjobs: [^\n]+\n", "an end without a line")
+                    line = r'"event":"note","text":"[^\n]+\n' if "--log" in words else r"bpfjobs: [^\n]+\n"
+                    self.assertRegex(read(told.name).decode(), rf"{line}|bpfjobs: [^\n]+\n", "an end without a line")
                 return status
             finally:
                 process.kill()
@@ -161,8 +162,8 @@ class Resources(Starts):
         self.check(resource.RLIMIT_NPROC, (1, 2, 4, 8, 32), 3, user=OTHER, group=OTHER, extra_groups=[])
 
     def test_no_descriptor(self):
-        """With four it listens, and has none for a connection: test_descriptor_limits.py has that."""
-        self.check(resource.RLIMIT_NOFILE, (3, 5, 6, 16), 127)
+        """With six it listens, and has none for a connection: test_descriptor_limits.py has that."""
+        self.check(resource.RLIMIT_NOFILE, (3, 4, 5, 7, 16), 127)
 
 
 class Journals(Starts):
