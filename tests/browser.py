@@ -12,6 +12,9 @@ import time
 
 from patience import PATIENCE
 
+# On a machine that is busy the browser would end since a process of its own for pictures is late, or a tab.
+FLAGS = ("--headless", "--no-sandbox", "--disable-gpu", "--in-process-gpu", "--disable-gpu-watchdog", "--disable-hang-monitor",
+         "--hide-scrollbars", "--remote-debugging-pipe")
 NAMES = ("chromium", "chromium-browser", "google-chrome", "google-chrome-stable")
 
 
@@ -46,8 +49,7 @@ class Browser:
         self.of, replies = map(moved_up, os.pipe())
         words = f'exec "$0" "$@" 3<&{theirs} 4>&{replies} {theirs}<&- {replies}>&-'
         self.process = subprocess.Popen(
-            ["bash", "-c", words, program(), "--headless", "--no-sandbox", "--disable-gpu",
-             "--hide-scrollbars", "--remote-debugging-pipe", f"--user-data-dir={self.profile}"],
+            ["bash", "-c", words, program(), *FLAGS, f"--user-data-dir={self.profile}"],
             pass_fds=(theirs, replies), stdout=subprocess.DEVNULL, stderr=subprocess.DEVNULL)
         os.close(theirs)
         os.close(replies)
