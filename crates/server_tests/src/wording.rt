@@ -34,7 +34,7 @@ pub fn faults(alloc: Global) -> Result<Vec<u64>, ScenarioFault> {
     holds(is_told, "a fault of a connection has another text")?;
     numbers.push(u64::from(fault.status()))?;
     let told = format!(in alloc; "{}", ServeFault::Socket)?;
-    let is_told = told.as_str() == "a socket failed";
+    let is_told = told.as_str() == "connections can't be taken any more";
     holds(is_told, "a fault of a socket has another text")?;
     Ok(numbers)
 }
