@@ -12,7 +12,8 @@ import time
 
 from patience import PATIENCE
 
-# On a machine that is busy the browser would end since a process of its own for pictures is late, or a tab.
+# Beside a load of three times the cores the browser ended by itself. With pictures made in its own process, and without its
+# watchdogs, it has not since.
 FLAGS = ("--headless", "--no-sandbox", "--disable-gpu", "--in-process-gpu", "--disable-gpu-watchdog", "--disable-hang-monitor",
          "--hide-scrollbars", "--remote-debugging-pipe")
 NAMES = ("chromium", "chromium-browser", "google-chrome", "google-chrome-stable")
