@@ -25,8 +25,10 @@ PLATFORM = "x86_64-linux-gnu"
 PROGRAMS = ("bpfjobs", "bpfrun")
 UNITS = ("telgovan.service", "bpfjobs@.service", "bpfjobs-tenants.service")
 LICENSES = ("LICENSE-APACHE", "LICENSE-MIT")
+# what of others is linked in
+THIRD_PARTY = "THIRD-PARTY.md"
 # what a user reads, below the folder of pages, where its own links lead on
-PAGES = re.compile(r"(CHANGELOG|README|bindings/\w+/README)\.md$|LICENSE|docs/((measurements|plots)/)?[\w-]+\.(md|svg)$|examples/")
+PAGES = re.compile(r"(CHANGELOG|README|SECURITY|THIRD-PARTY|bindings/\w+/README)\.md$|LICENSE|docs/((measurements|plots)/)?[\w-]+\.(md|svg)$|examples/")
 DEBIAN_PARTS = {
     "telgovan": r"usr/bin/|lib/systemd/|usr/lib/[^/]+/libtelgovan\.so\.0$|usr/share/(bash-|man/man1/|telgovan/|doc/telgovan/)",
     "libtelgovan-dev": r"usr/include/|usr/lib/[^/]+/(libtelgovan\.(a|so)$|pkgconfig/)|usr/share/(man/man3/|doc/libtelgovan-dev/)",
@@ -173,8 +175,8 @@ def stage_debian(release, room):
         packed(page)
     for name in LICENSES:
         (usr / "share/doc/telgovan" / name).unlink()
-    texts = [release.tree / "release/debian/copyright", release.tree / "LICENSE-MIT"]
-    license_text = "".join(text.read_text(encoding="utf-8") for text in texts)
+    texts = [release.tree / name for name in ("release/debian/copyright", "LICENSE-MIT", THIRD_PARTY)]
+    license_text = "\n".join(text.read_text(encoding="utf-8") for text in texts)
     when = time.strftime("%a, %d %b %Y %H:%M:%S +0000", time.gmtime(release.date))
     source = (release.tree / "release/debian/control").read_text(encoding="utf-8")
     maintainer = re.search(r"^Maintainer: (.*)$", source, re.MULTILINE).group(1)
@@ -252,7 +254,7 @@ def write_wheel(release, out):
     import wheel_of
 
     more = {wheel_of.LIBRARY: (release.built / "libtelgovan.so").read_bytes()}
-    for name in LICENSES:
+    for name in (*LICENSES, THIRD_PARTY):
         more[f"licenses/{name}"] = (release.tree / name).read_bytes()
     more["licenses/PROVENANCE"] = release.provenance.encode()
     tag = "py3-none-manylinux_{}_{}_x86_64".format(*release.libc)
@@ -273,7 +275,7 @@ def write_crate(release, room, out):
     if manifest.count(told.format(release.version)) != 1:
         raise Failed(f"Cargo.toml doesn't tell the version {release.version} once")
     put(manifest.replace(told.format(release.version), told.format(version)), room / "Cargo.toml")
-    for name in LICENSES:
+    for name in (*LICENSES, THIRD_PARTY):
         put(release.tree / name, room / name)
     put(release.built / "libtelgovan.a", room / "lib/libtelgovan.a")
     put(release.provenance, room / "PROVENANCE")

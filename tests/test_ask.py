@@ -114,11 +114,15 @@ class Words(Asks):
         """It is refused as `bpfjobs run` refuses it, and nothing is sent."""
         for given, code in (("", 72), ("[", 72), ("[]", 73), ("{}", 73), ('{"credit":1,"buffer":"","programs":[{}]}', 73)):
             with self.subTest(given):
-                self.assertEqual(asked("--socket", self.path, "submit", given=given), (1, f'{{"code":{code},"ok":false}}\n'.encode(), ""))
+                status, out, err = asked("--socket", self.path, "submit", given=given)
+                self.assertEqual((status, out), (1, f'{{"code":{code},"ok":false}}\n'.encode()))
+                self.assertRegex(err, r"^bpfjobs: .+\n$")
 
     def test_a_request_too_large(self):
         given = job_text([(0, bytes(600_000))], 3, b"")
-        self.assertEqual(asked("--socket", self.path, "submit", given=given), (1, b'{"code":71,"ok":false}\n', ""))
+        status, out, err = asked("--socket", self.path, "submit", given=given)
+        self.assertEqual((status, out), (1, b'{"code":71,"ok":false}\n'))
+        self.assertTrue(err.startswith("error[71]: "), err)
 
 
 class Servers(Asks):

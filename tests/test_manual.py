@@ -56,7 +56,8 @@ class Manual(unittest.TestCase):
 class Completions(unittest.TestCase):
     def test_commands(self):
         self.assertEqual(completed("bpfjobs", "dis"), ["disassemble"])
-        self.assertEqual(sorted(completed("bpfjobs", "help", "")), ["ask", "assemble", "disassemble", "journal", "play", "run", "serve", "verify"])
+        commands = ["ask", "assemble", "check", "disassemble", "job", "journal", "play", "run", "serve", "verify"]
+        self.assertEqual(sorted(completed("bpfjobs", "help", "")), commands)
 
     def test_options(self):
         self.assertEqual(completed("bpfjobs", "serve", "--p"), ["--port"])

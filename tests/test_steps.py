@@ -134,9 +134,15 @@ class Traces(unittest.TestCase):
                 self.assertIn(f"{register} {value}", line[len(head):])
 
     def test_no_job_has_no_steps(self):
-        for given, number in (("nothing", 72), ('{"programs":[],"credit":1,"buffer":"","schedule":[]}', 61)):
-            status, answer, told = ran(["play", "--trace"], given)
-            self.assertEqual((status, json.loads(answer)["code"], told), (1, number, ""))
+        empty = '{"programs":[],"credit":1,"buffer":"","schedule":[]}'
+        for given, number, words in (("nothing", 72, "bpfjobs: line 1, column 1: "), (empty, 61, "error[61]: ")):
+            with tempfile.TemporaryDirectory() as room:
+                path = os.path.join(room, "steps")
+                status, answer, told = ran(["play", "--trace", "--trace-json", path], given)
+                self.assertFalse(os.path.exists(path))
+            self.assertEqual((status, json.loads(answer)["code"]), (1, number))
+            self.assertTrue(told.startswith(words), told)
+            self.assertNotIn("task ", told)
 
     def test_a_file_that_cant_be_written(self):
         with open(os.path.join(TOP, "examples/answer.json"), encoding="utf-8") as file:

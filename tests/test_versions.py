@@ -31,6 +31,7 @@ LIBRARY = os.path.join(os.environ.get("TELGOVAN_LIB", os.path.join(TOP, "binding
 
 # a file, and what stands before and behind a version there
 TOLD = (
+    ("CITATION.cff", r"^version: (.*)$"),
     ("bindings/rust/Cargo.toml", r'^version = "(.*)"$'),
     ("bindings/python/pyproject.toml", r'^version = "(.*)"$'),
     ("bindings/python/telgovan/__init__.py", r'^__version__ = "(.*)"$'),

@@ -3,7 +3,7 @@ _bpfjobs() {
     local word=${COMP_WORDS[COMP_CWORD]} previous=${COMP_WORDS[COMP_CWORD - 1]}
     COMPREPLY=()
     if ((COMP_CWORD == 1)); then
-        mapfile -t COMPREPLY < <(compgen -W "assemble disassemble verify play run serve journal ask help --help --version" -- "$word")
+        mapfile -t COMPREPLY < <(compgen -W "assemble disassemble verify play run serve journal ask job check help --help --version" -- "$word")
         return
     fi
     case ${COMP_WORDS[1]} in
@@ -50,7 +50,16 @@ _bpfjobs() {
         esac
         mapfile -t COMPREPLY < <(compgen -W "--port --socket --wait --key --from --help" -- "$word")
         ;;
-    help) mapfile -t COMPREPLY < <(compgen -W "assemble disassemble verify play run serve journal ask" -- "$word") ;;
+    job)
+        case $previous in
+        --credit | --schedule) return ;;
+        esac
+        mapfile -t COMPREPLY < <(compgen -W "--credit --buffer --schedule --help" -- "$word")
+        ;;
+    check)
+        mapfile -t COMPREPLY < <(compgen -W "--help" -- "$word")
+        ;;
+    help) mapfile -t COMPREPLY < <(compgen -W "assemble disassemble verify play run serve journal ask job check" -- "$word") ;;
     esac
 }
 complete -o filenames -F _bpfjobs bpfjobs

@@ -9,7 +9,7 @@ use std::rt::Clock;
 use std::sync::Wait;
 use std::thread::Threads;
 use std::time::{Duration, Instant};
-use workers::{OpenGate, run_job};
+use workers::{OpenGate, run_whole};
 
 /// How often each job is played.
 const ROUNDS: u32 = 10;
@@ -138,7 +138,7 @@ fn run<R: Clock + Threads + Wait + Sync>(
     let job = tree.job(alloc)?;
     let (_board, post, _reader) = job.board(alloc, number)?;
     let start = Instant::now(rt)?;
-    let report = run_job(rt, alloc, job, post, workers.clamp(1, 16), &OpenGate)?;
+    let report = run_whole(rt, alloc, job, post, workers.clamp(1, 16), &OpenGate)?;
     let took = start.elapsed(rt)?;
     if report.tasks.len() != tree.tasks() as usize {
         bail!("tasks are missing");

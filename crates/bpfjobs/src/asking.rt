@@ -1,8 +1,10 @@
 //! The command `ask`: one request to a server that runs, and its reply.
 
+use crate::input_faults::{JobForm, tell_input_fault};
+use crate::printing::print_text;
 use bpfjobs_cli::{
-    Answer, Ask, Endpoint, FAILED, JobDeclined, ServerQuestion, ask_frame, ask_request, read_all,
-    reply_status, tell,
+    Ask, Endpoint, FAILED, JobDeclined, ServerQuestion, ask_frame, ask_request, read_all,
+    reply_status,
 };
 use job_server::{SocketErrorWords, address_of};
 use std::alloc::Global;
@@ -141,21 +143,14 @@ fn input_for<R: Input>(rt: &R, alloc: Global, question: &ServerQuestion) -> Opti
     }
 }
 
-// Prints an answer, and gives its status.
-fn print_answer<R: Print>(rt: &R, answer: &Answer) -> u8 {
-    let mut writer = Tap::new(io::writer(rt));
-    match tell(&mut writer, answer) {
-        Ok(status) => status,
-        Err(_) => FAILED,
-    }
-}
-
-// Prints the refusal of input that is no job, and gives the status.
-fn declined<R: Print>(rt: &R, alloc: Global, why: JobDeclined) -> u8 {
-    match why.answer(alloc) {
-        Ok(answer) => print_answer(rt, &answer),
-        Err(_) => FAILED,
-    }
+// Prints the refusal of input that is no job, tells it in words, and gives the status.
+fn declined<R: Print + Eprint>(rt: &R, alloc: Global, why: JobDeclined, input: &[u8]) -> u8 {
+    let Ok(answer) = why.answer(alloc) else {
+        return FAILED;
+    };
+    let status = print_text(rt, &answer.text, answer.status);
+    tell_input_fault(rt, alloc, Some(JobForm::Plain), None, input, answer.code);
+    status
 }
 
 // Prints a reply, and gives the status.
@@ -167,7 +162,7 @@ fn reply_told<R: Print + Eprint>(rt: &R, alloc: Global, endpoint: &Endpoint, rep
     };
     let mut text = reply;
     match text.push(b'\n') {
-        Ok(()) => print_answer(rt, &Answer { text, status }),
+        Ok(()) => print_text(rt, &text, status),
         Err(_) => told(rt, endpoint, "", "no memory for the reply"),
     }
 }
@@ -184,11 +179,11 @@ where
     };
     let text = match ask_request(alloc, &ask.question, &input) {
         Ok(text) => text,
-        Err(fault) => return declined(rt, alloc, JobDeclined::Object(fault)),
+        Err(fault) => return declined(rt, alloc, JobDeclined::Object(fault), &input),
     };
     let frame = match ask_frame(alloc, &text) {
         Ok(frame) => frame,
-        Err(fault) => return declined(rt, alloc, JobDeclined::Object(fault)),
+        Err(fault) => return declined(rt, alloc, JobDeclined::Object(fault), &input),
     };
     let reply = match connection(rt, &ask.endpoint, ask.wait) {
         Ok(AskConnection::Port(stream)) => reply_to(alloc, &stream, &stream, &frame),

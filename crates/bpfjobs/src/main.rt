@@ -14,12 +14,16 @@ mod command_input;
 mod foreign_file;
 mod host_notes;
 mod input_faults;
+mod job_writing;
 mod journal_compacting;
 mod journal_faults;
 mod journal_following;
 mod journal_opening;
 mod journal_reading;
 mod listening;
+mod printing;
+mod progress_line;
+mod result_checking;
 mod server_threads;
 mod serving;
 mod showing;
@@ -38,7 +42,9 @@ use command_input::{unanswered, unread};
 use host_notes::tell_host;
 use input_faults::{JobForm, job_form, tell_input_fault};
 use job_server::ServeFault;
+use job_writing::write_job;
 use journal_reading::print_journal;
+use result_checking::check_files;
 use server_log::ServerLog;
 use server_threads::log_of;
 use serving::serve;
@@ -48,6 +54,7 @@ use standard_files::fill_gaps;
 use std::alloc::{AllocError, Global};
 use std::env::Env;
 use std::fs::{File, Files};
+use std::io::IsTerminal;
 use std::net::{Net, TcpListener, TcpStream};
 use std::process::ExitCode;
 use std::sync::{Arc, Wait};
@@ -75,7 +82,7 @@ where
     };
     match answered {
         Ok(done) => {
-            tell_input_fault(rt, alloc, form, path, &done);
+            tell_input_fault(rt, alloc, form, path, &done.input, done.code);
             done.status
         }
         Err(fault) => unanswered(rt, path, fault),
@@ -99,7 +106,14 @@ where
     };
     match answered {
         Ok(done) => {
-            tell_input_fault(rt, alloc, Some(JobForm::Plain), path, &done);
+            tell_input_fault(
+                rt,
+                alloc,
+                Some(JobForm::Plain),
+                path,
+                &done.input,
+                done.code,
+            );
             done.status
         }
         Err(fault) => unanswered(rt, path, fault),
@@ -108,9 +122,9 @@ where
 
 // Prints the answer of a command beside which something is shown, and gives the status; none, and
 // nothing is read, where nothing is to be shown.
-fn show<R>(rt: &R, request: &CommandRequest<'_>) -> Option<u8>
+fn show<R>(rt: &R, request: &CommandRequest<'_>, on_terminal: bool) -> Option<u8>
 where
-    R: Input + Print + Eprint + Files<File = File> + Threads + Wait + Sync + AllocGlobal,
+    R: Input + Print + Eprint + Files<File = File> + Threads + Wait + Clock + Sync + AllocGlobal,
     requires { IsInRange request.now.command }
 {
     let shown = &request.shown;
@@ -119,17 +133,16 @@ where
         Command::Play if shown.traces || shown.trace_json.is_some() => {
             Some(play_shown(rt, input, shown))
         }
-        Command::Run { workers } => match shown.tree {
-            Some(path) => Some(run_shown(rt, *workers, input, path)),
-            None => None,
-        },
+        Command::Run { workers } if on_terminal || shown.tree.is_some() => {
+            Some(run_shown(rt, *workers, input, shown.tree, on_terminal))
+        }
         _ => None,
     }
 }
 
 // The server that the words ask for. Every other command is carried out, and gives its status, as
-// words do that are refused.
-fn server_of<R>(rt: &R, alloc: Global) -> Result<Serve, u8>
+// words do that are refused. A terminal, on which standard error may be, is told more.
+fn server_of<R>(rt: &R, alloc: Global, on_terminal: bool) -> Result<Serve, u8>
 where
     R: Env
         + Input
@@ -151,7 +164,7 @@ where
         Ok(request) => request,
         Err(usage) => return Err(print_usage(rt, usage)),
     };
-    if let Some(status) = show(rt, &request) {
+    if let Some(status) = show(rt, &request, on_terminal) {
         return Err(status);
     }
     let input = request.input;
@@ -162,6 +175,8 @@ where
             return Err(print_journal(rt, alloc, &path, checks));
         }
         Command::Ask(ask) => return Err(ask_server(rt, alloc, &ask)),
+        Command::Job(job) => return Err(write_job(rt, alloc, job)),
+        Command::Check { job, result } => return Err(check_files(rt, alloc, &job, &result)),
         command => return Err(answer(rt, alloc, command, input)),
     };
     let server = match with_file(rt, alloc, server) {
@@ -215,7 +230,7 @@ fn main(rt: HostRuntime) -> ExitCode {
         );
         return ExitCode::from(FAILED);
     };
-    let server = match server_of(&rt, alloc) {
+    let server = match server_of(&rt, alloc, rt.stderr().is_terminal()) {
         Ok(server) => server,
         Err(status) => return ExitCode::from(status),
     };

@@ -3,15 +3,18 @@
 ghost use Rattle.std.specs.Prelude.{◌≤◌};
 
 use crate::command_input::whole_input;
+use crate::input_faults::{JobForm, tell_input_fault};
+use crate::progress_line::answer_shown;
 use bpfjobs_cli::{
-    Answer, FAILED, Shown, answer_play, answer_run, step_lines, step_objects, steps_of, tell,
-    tree_in, tree_text,
+    Answer, FAILED, Shown, answer_play, step_lines, step_objects, steps_of, tell, tree_in,
+    tree_text,
 };
 use refusal::NoMemory;
 use run_trace::JobStep;
 use std::fs::{File, Files};
 use std::sync::Wait;
 use std::thread::Threads;
+use std::time::Clock;
 use std::{fs, io};
 use streams::Tap;
 
@@ -26,14 +29,23 @@ fn written<R: Files + Eprint>(rt: &R, path: &str, text: &str) -> bool {
     }
 }
 
-// Prints an answer, if there was memory for it, and gives the status.
-fn told<R: Print>(rt: &R, answer: Result<Answer, NoMemory>) -> u8 {
+// Prints an answer, if there was memory for it, tells a refusal in words, and gives the status.
+fn told<R: Print + Eprint + AllocGlobal>(
+    rt: &R,
+    form: JobForm,
+    path: Option<&str>,
+    input: &[u8],
+    answer: Result<Answer, NoMemory>,
+) -> u8 {
     let Ok(answer) = answer else {
         return FAILED;
     };
     let mut writer = Tap::new(io::writer(rt));
     match tell(&mut writer, &answer) {
-        Ok(status) => status,
+        Ok(status) => {
+            tell_input_fault(rt, rt.alloc(), Some(form), path, input, answer.code);
+            status
+        }
         Err(_) => FAILED,
     }
 }
@@ -62,6 +74,19 @@ fn told_steps<R: Files + Eprint + AllocGlobal>(
     }
 }
 
+// Writes the tree of a job into a file; nothing of what is no job. Tells whether that went well.
+fn told_tree<R: Files + Eprint + AllocGlobal>(rt: &R, path: &str, input: &[u8]) -> bool {
+    let alloc = rt.alloc();
+    match tree_in(alloc, input) {
+        Ok(Some(found)) => match tree_text(alloc, &found) {
+            Ok(text) => written(rt, path, text.as_str()),
+            Err(_) => false,
+        },
+        Ok(None) => true,
+        Err(_) => false,
+    }
+}
+
 /// Plays a job by its schedule, tells its steps, prints how far it comes, and gives the status.
 pub fn play_shown<R>(rt: &R, path: Option<&str>, shown: &Shown<'_>) -> u8
 where
@@ -80,14 +105,21 @@ where
             return FAILED;
         }
     }
-    told(rt, answer_play(alloc, &input))
+    let answer = answer_play(alloc, &input);
+    told(rt, JobForm::Scheduled, path, &input, answer)
 }
 
-/// Runs a job on so many threads, writes its tree into a file, prints what it comes to, and gives
-/// the status.
-pub fn run_shown<R>(rt: &R, workers: u32, path: Option<&str>, tree: &str) -> u8
+/// Runs a job on so many threads, writes its tree into a file that is named, prints what it comes to,
+/// and gives the status. On a terminal a line tells meanwhile how far it is.
+pub fn run_shown<R>(
+    rt: &R,
+    workers: u32,
+    path: Option<&str>,
+    tree: Option<&str>,
+    on_terminal: bool,
+) -> u8
 where
-    R: Input + Print + Eprint + Files<File = File> + Threads + Wait + Sync + AllocGlobal,
+    R: Input + Print + Eprint + Files<File = File> + Threads + Wait + Clock + Sync + AllocGlobal,
     requires { (1 ≤ workers) × (workers ≤ 16) }
 {
     let alloc = rt.alloc();
@@ -95,16 +127,11 @@ where
         Ok(input) => input,
         Err(status) => return status,
     };
-    let Ok(found) = tree_in(alloc, &input) else {
-        return FAILED;
-    };
-    if let Some(found) = found {
-        let Ok(text) = tree_text(alloc, &found) else {
-            return FAILED;
-        };
-        if !written(rt, tree, text.as_str()) {
+    if let Some(tree) = tree {
+        if !told_tree(rt, tree, &input) {
             return FAILED;
         }
     }
-    told(rt, answer_run(rt, alloc, workers, &input))
+    let answer = answer_shown(rt, alloc, workers, &input, on_terminal);
+    told(rt, JobForm::Plain, path, &input, answer)
 }

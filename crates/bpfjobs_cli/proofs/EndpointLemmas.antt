@@ -13,4 +13,6 @@ command_usage words name rows (usage.Refused error) none found refused = absurd 
 command_usage words name rows (usage.Endpoint fault) none found refused = (none, rows, found ∙ ap (λ (n : Text). Some (n, rows)) refused.0, refused.1)
 command_usage words name rows (usage.Tenant word fault) none found refused = (none, rows, found ∙ ap (λ (n : Text). Some (n, rows)) refused.0, refused.1)
 command_usage words name rows (usage.Ask fault) none found refused = (none, rows, found ∙ ap (λ (n : Text). Some (n, rows)) refused.0, refused.1)
+command_usage words name rows (usage.Job fault) none found refused = (none, rows, found ∙ ap (λ (n : Text). Some (n, rows)) refused.0, refused.1)
+command_usage words name rows usage.TwoInputs none found refused = (none, rows, found ∙ ap (λ (n : Text). Some (n, rows)) refused.0, refused.1)
 command_usage words name rows usage.NoMemory none found refused = tt

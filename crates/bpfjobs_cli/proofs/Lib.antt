@@ -1,4 +1,6 @@
 pub mod LineLemmas
+pub mod EndLemmas
+pub mod ResultLemmas
 pub mod EndpointLemmas
 pub mod NumberLemmas
 pub mod FlagLemmas
@@ -14,3 +16,7 @@ pub mod EnteredLemmas
 pub mod TurnLemmas
 pub mod RangeLemmas
 pub mod AskLemmas
+pub mod LastColon
+pub mod JobWordLemmas
+pub mod JobUsageLemmas
+pub mod JobTextLemmas

@@ -5,16 +5,16 @@ use Rattle.std.proofs.lemmas.Slice.Eq.{bytes_eq-Decides}
 use Rattle.std.specs.Str.{bytes_eq}
 use Rattle.clap.specs.Facts.{unwrap_or_range}
 use Rattle.clap.specs.Walk.{Row, Rule, Text, action_of, first_of, nothing_held, one_of, rows_after}
-use Rattle.clap.specs.Simple.{App, Shape, argument_words, built, built_leaf, filled, help_shape, inherited, is_simple, marked_built, new_app, with_leaf_noted, subcommand_of, with_index}
+use Rattle.clap.specs.Simple.{App, Shape, argument_words, built, built_leaf, filled, help_shape, inherited, is_simple, marked_built, with_leaf_noted, subcommand_of, with_index}
 use Rattle.clap.specs.Kinds.{HasKind}
 use Rattle.clap.specs.declared.error.Error.{Error}
 use Rattle.clap.specs.Faults.{fault_of, is_simple_and_free, level_fault}
 use Rattle.clap.specs.declared.builder.action.ArgAction.TheVariants as action
 use Rattle.clap.specs.declared.builder.value_parser.ValueParser.TheVariants as vp
 use Rattle.clap.proofs.OnLiterals.{clap_on_literals}
-use Rattle.bpfjobs_cli.specs.Commands.{AreOptionsOf, IsMaybeNumber, IsNumberIn, SaysCommand, says_assemble, says_disassemble, says_verify, says_play, says_run, says_serve, says_journal, says_ask, sessions_said}
+use Rattle.bpfjobs_cli.specs.Commands.{AreOptionsOf, IsMaybeNumber, IsNumberIn, SaysCommand, says_assemble, says_disassemble, says_verify, says_play, says_run, says_serve, says_journal, says_ask, says_job, says_check, sessions_said}
 use Rattle.bpfjobs_cli.specs.declared.commands.ServeOptions.{ServeOptions}
-use Rattle.bpfjobs_cli.specs.Program.{amount_rule, assemble_app, disassemble_app, ask_app, bpfjobs_app, from_rule, wait_rule, word_rule, journal_app, journal_file_rule, need_rule, port_rule, run_app, play_app, serve_app, sessions_rule, tenant_jobs_rule, clients_rule, timeout_rule, open_jobs_rule, keep_rule, keep_bytes_rule, verify_app, workers_rule}
+use Rattle.bpfjobs_cli.specs.Program.{amount_rule, assemble_app, disassemble_app, ask_app, bpfjobs_app, buffer_rule, check_app, job_credit_rule, job_app, job_file_rule, result_file_rule, from_rule, wait_rule, word_rule, journal_app, journal_file_rule, need_rule, port_rule, run_app, play_app, serve_app, sessions_rule, tenant_jobs_rule, clients_rule, timeout_rule, open_jobs_rule, keep_rule, keep_bytes_rule, verify_app, workers_rule}
 use Rattle.bpfjobs_cli.proofs.NumberLemmas.{signed_number, unsigned_number}
 use Rattle.bpfjobs_cli.proofs.RowLemmas.{Among, Each, HasValue, IsOnly, On, both, default_value, maybe_value, required_value}
 use Rattle.bpfjobs_cli.proofs.SubcommandLemmas.{Gives, HasNoAlias, subcommand_gives}
@@ -22,6 +22,10 @@ use Rattle.bpfjobs_cli.proofs.SubcommandLemmas.{Gives, HasNoAlias, subcommand_gi
 -- the rules as clap builds them
 abbrev rule : Rule → Rule
 rule r = with_index 1 (filled r)
+
+-- one that is the second word
+abbrev second : Rule → Rule
+second r = with_index 2 (filled r)
 
 -- one that is the third word
 abbrev third : Rule → Rule
@@ -173,15 +177,34 @@ ask words own none =
     (other, (other, (other, (other, (other, (other, (other, ((λ same. refl), (other, tt))))))))) none in
     says_ask refl (record { word = ap is_some value.2; port = port; wait = wait; amount = amount; from = from })
 
+job : Gives SaysCommand (leaf job_app.top)
+job words own none =
+    let credit = wanted (rule job_credit_rule) 0 4294967295 refl (omega arith) refl (leaf job_app.top) words
+    ((λ same. refl), (other, (other, (other, (other, tt))))) (inl refl) none refl refl in
+    let buffer : HasValue (rule buffer_rule) (rows_after (leaf job_app.top).rules [] words) =
+    required_value (rule buffer_rule) refl (omega arith) (leaf job_app.top) [] words false []
+    (other, ((λ same. refl), (other, (other, (other, tt))))) none refl (inr (inl refl)) refl in
+    says_job refl (record { credit = credit; buffer = ap is_some buffer.2 })
+
+check : Gives SaysCommand (leaf check_app.top)
+check words own none =
+    let first : HasValue (rule job_file_rule) (rows_after (leaf check_app.top).rules [] words) =
+    required_value (rule job_file_rule) refl (omega arith) (leaf check_app.top) [] words false []
+    ((λ same. refl), (other, (other, tt))) none refl (inl refl) refl in
+    let then_second : HasValue (second result_file_rule) (rows_after (leaf check_app.top).rules [] words) =
+    required_value (second result_file_rule) refl (omega arith) (leaf check_app.top) [] words false []
+    (other, ((λ same. refl), (other, tt))) none refl (inr (inl refl)) refl in
+    says_check refl (record { job = ap is_some first.2; result = ap is_some then_second.2 })
+
 -- clap's own subcommand, which gives help
 help : Gives SaysCommand (built_leaf help_shape)
 help words own none = absurd (true≢false own)
 
 gives : Each (Gives SaysCommand) (built bpfjobs_app).subs
-gives = (assemble, (disassemble, (verify, (play, (run, (serve, (journal, (ask, (help, tt)))))))))
+gives = (assemble, (disassemble, (verify, (play, (run, (serve, (journal, (ask, (job, (check, (help, tt)))))))))))
 
 aliases : Each HasNoAlias (built bpfjobs_app).subs
-aliases = (refl, (refl, (refl, (refl, (refl, (refl, (refl, (refl, (refl, tt)))))))))
+aliases = (refl, (refl, (refl, (refl, (refl, (refl, (refl, (refl, (refl, (refl, (refl, tt)))))))))))
 
 -- clap fails, or the line says a command
 pub says_command : (words : List Text) → fault_of bpfjobs_app words ≡ [] → (is_some (subcommand_of bpfjobs_app words) ≡ true) × On (λ p. SaysCommand p.0 p.1) (subcommand_of bpfjobs_app words)

@@ -3,7 +3,7 @@ use Rattle.std.proofs.Common.{◌≤◌, ◌==◌, ℕ, Bool, cond, true, false,
 use Rattle.std.specs.Prelude.{IfSome}
 use Rattle.clap.specs.Words.{Row, Text}
 use Rattle.bpfjobs_cli.specs.declared.commands.Command.{Command}
-use Rattle.bpfjobs_cli.specs.declared.commands.Command.TheVariants.{Assemble, Disassemble, Verify, Play, Run, Serve, Journal, Ask}
+use Rattle.bpfjobs_cli.specs.declared.commands.Command.TheVariants.{Assemble, Disassemble, Verify, Play, Run, Serve, Journal, Ask, Job, Check}
 use Rattle.bpfjobs_cli.specs.declared.commands.Endpoint.{Endpoint}
 use Rattle.bpfjobs_cli.specs.declared.commands.Endpoint.TheVariants.{Port, Socket}
 use Rattle.bpfjobs_cli.specs.declared.tenant_socket.TenantSocket.{TenantSocket}
@@ -57,3 +57,5 @@ command_range name rows (Serve serve) is = record {
 }
 command_range name rows (Journal path checks) is = tt
 command_range name rows (Ask ask) is = (endpoint_range rows ask.endpoint is.1.endpoint, is.1.wait.most)
+command_range name rows (Job job) is = tt
+command_range name rows (Check job result) is = tt

@@ -1,20 +1,20 @@
 -- One turn of the loops over words and lines.
-use Rattle.std.proofs.Common.{◌≡◌, ◌≤◌, ◌<◌, ◌+◌, ◌∙◌, ◌==◌, ℕ, true, false, List, [], ◌∷◌, length, map, drop, get_or, refl, sym, ap, subst, arith, option_map, Some, Ok}
-use Rattle.std.specs.List.{slice_get, slice_split}
+use Rattle.std.proofs.Common.{◌≡◌, ◌≤◌, ◌<◌, ◌+◌, ◌∙◌, ◌==◌, ℕ, true, false, List, [], ◌∷◌, length, map, drop, get_or, sym, ap, subst, arith, option_map, Some, Ok}
+use Rattle.std.specs.List.{slice_get}
 use Rattle.std.specs.Borrow.{Bor}
 use Rattle.std.proofs.lemmas.Bool.Decides.{nat_tests}
-use Rattle.std.proofs.lemmas.List.{drop_all, drop_more, length-drop}
+use Rattle.std.proofs.lemmas.List.{drop_all, drop_more}
 use Rattle.std.proofs.lemmas.Option.{slice_get-get_or, slice_get-map}
 use Rattle.bpfjobs_cli.specs.declared.commands.Usage.{Usage}
 use Rattle.bpfjobs_cli.specs.declared.commands.Usage.TheVariants as usage
 use Rattle.bpfjobs_cli.specs.declared.tenants.EntryFault.{EntryFault}
 use Rattle.bpfjobs_cli.specs.declared.tenants.EntryFault.TheVariants as entry
 use Rattle.bpfjobs_cli.specs.declared.tenant_text.Delimiter.TheVariants.{LineEnd}
-use Rattle.bpfjobs_cli.specs.TenantLines.{SaidText, before_delimiter, from_delimiter, is_delimiter, line_says, word_says}
+use Rattle.bpfjobs_cli.specs.TenantLines.{SaidText, before_delimiter, from_delimiter, line_says, word_says}
 use Rattle.bpfjobs_cli.specs.Tenants.{Entered, IsWrongLine, NamedTenant, entered, fault_said, lines_said, words_said}
 use Rattle.bpfjobs_cli.specs.Entries.{IsWordUsage, RefusesSaid, TakesSaid, TellsWord, wrong_at}
 use Rattle.bpfjobs_cli.proofs.EnteredLemmas.{entered_more, entered_stops}
-use Rattle.bpfjobs_cli.proofs.TenantLemmas.{behind, lines_at, within}
+use Rattle.bpfjobs_cli.proofs.TenantLemmas.{behind, none_behind, parts_at, some_behind}
 
 pub is_none : (n : ℕ) → true ≡ (n == 0) → n ≡ 0
 is_none n e = grind (arith, nat_tests)
@@ -22,44 +22,31 @@ is_none n e = grind (arith, nat_tests)
 pub is_some : (n : ℕ) → false ≡ (n == 0) → 0 < n
 is_some n e = grind (arith, nat_tests)
 
--- what is behind a line is shorter
-pub shorter : (rest tail next : List ℕ) → tail ≡ from_delimiter LineEnd rest → 0 < length tail → next ≡ drop 1 tail → length next + 1 ≤ length rest
-shorter rest tail next tail_is some is =
-    omega (arith, within LineEnd rest, ap length tail_is, some, ap length is, length-drop 1 tail)
-
-none_behind : (tail : List ℕ) → length tail ≡ 0 → behind tail ≡ []
-none_behind [] e = refl
-none_behind (c ∷ cs) e = absurd (omega (arith, e))
-
-some_behind : (tail : List ℕ) → 0 < length tail → behind tail ≡ slice_split (is_delimiter LineEnd) (drop 1 tail)
-some_behind [] lt = absurd (omega (arith, lt))
-some_behind (c ∷ cs) lt = refl
-
 -- ---- lines
 
 module _ (whole : Entered) (ts : List NamedTenant) (n : ℕ) (rest front tail : List ℕ) (s : SaidText) (so_far : whole ≡ entered ts n (lines_said rest))
     (front_is : front ≡ before_delimiter LineEnd rest) (tail_is : tail ≡ from_delimiter LineEnd rest) (said_is : s ≡ line_says front) where
-  this_line : whole ≡ entered ts n (s ∷ map line_says (behind tail))
+  this_line : whole ≡ entered ts n (s ∷ map line_says (behind LineEnd tail))
   this_line =
-      so_far ∙ ap (λ (ls : List (List ℕ)). entered ts n (map line_says ls)) (lines_at rest)
-      ∙ ap (λ (f : List ℕ). entered ts n (line_says f ∷ map line_says (behind (from_delimiter LineEnd rest)))) (sym front_is)
-      ∙ ap (λ (t : List ℕ). entered ts n (line_says front ∷ map line_says (behind t))) (sym tail_is)
-      ∙ ap (λ (x : SaidText). entered ts n (x ∷ map line_says (behind tail))) (sym said_is)
+      so_far ∙ ap (λ (ls : List (List ℕ)). entered ts n (map line_says ls)) (parts_at LineEnd rest)
+      ∙ ap (λ (f : List ℕ). entered ts n (line_says f ∷ map line_says (behind LineEnd (from_delimiter LineEnd rest)))) (sym front_is)
+      ∙ ap (λ (t : List ℕ). entered ts n (line_says front ∷ map line_says (behind LineEnd t))) (sym tail_is)
+      ∙ ap (λ (x : SaidText). entered ts n (x ∷ map line_says (behind LineEnd tail))) (sym said_is)
 
   pub line_wrong : (e : EntryFault) → RefusesSaid ts s e → IsWrongLine (wrong_at n e) whole
-  line_wrong (entry.Wrong f) wrong = this_line ∙ entered_stops ts n s (map line_says (behind tail)) f wrong
+  line_wrong (entry.Wrong f) wrong = this_line ∙ entered_stops ts n s (map line_says (behind LineEnd tail)) f wrong
   line_wrong entry.NoMemory wrong = tt
 
   module _ (after : List NamedTenant) (takes : TakesSaid ts s after) where
-    line_more : whole ≡ entered after (n + 1) (map line_says (behind tail))
-    line_more = this_line ∙ entered_more ts after n s (map line_says (behind tail)) takes
+    line_more : whole ≡ entered after (n + 1) (map line_says (behind LineEnd tail))
+    line_more = this_line ∙ entered_more ts after n s (map line_says (behind LineEnd tail)) takes
 
     pub line_last : length tail ≡ 0 → whole ≡ Ok after
-    line_last none = line_more ∙ ap (λ (ls : List (List ℕ)). entered after (n + 1) (map line_says ls)) (none_behind tail none)
+    line_last none = line_more ∙ ap (λ (ls : List (List ℕ)). entered after (n + 1) (map line_says ls)) (none_behind LineEnd tail none)
 
     pub line_next : (next : List ℕ) → 0 < length tail → next ≡ drop 1 tail → whole ≡ entered after (n + 1) (lines_said next)
     line_next next some is =
-        line_more ∙ ap (λ (ls : List (List ℕ)). entered after (n + 1) (map line_says ls)) (some_behind tail some)
+        line_more ∙ ap (λ (ls : List (List ℕ)). entered after (n + 1) (map line_says ls)) (some_behind LineEnd tail some)
         ∙ ap (λ (t : List ℕ). entered after (n + 1) (lines_said t)) (sym is)
 
 -- ---- words
@@ -85,6 +72,8 @@ module _ (ts : List NamedTenant) (n : ℕ) (words : List (Bor (List ℕ))) (none
       let why : fault_said ts s ≡ Some f = subst (RefusesSaid ts s) tells.1 wrong in
       (n, this_word ∙ entered_stops ts n s (words_said (texts (drop (n + 1) words))) f why, place ∙ ap Some (sym tells.0))
   word_wrong e (usage.Ask fault) wrong tells = absurd tells
+  word_wrong e (usage.Job fault) wrong tells = absurd tells
+  word_wrong e usage.TwoInputs wrong tells = absurd tells
   word_wrong e usage.NoMemory wrong tells = tt
 
   pub word_more : (after : List NamedTenant) → TakesSaid ts s after → entered [] 0 (words_said (texts words)) ≡ entered after (n + 1) (words_said (texts (drop (n + 1) words)))

@@ -1,5 +1,5 @@
 -- The command that a subcommand and its matches are.
-use Rattle.std.specs.Prelude.{◌≡◌, ◌≢◌, ◌==◌, ◌↔◌, ◌⊎◌, ℕ, ◌≤◌, ◌<◌, ◌^◌, if◌then◌else◌, IfSome, Bool, IsTrue, List, [], codes, Ok, unwrap_or, Option, Some, None, is_some, option_and_then, option_map, String, string_bytes, false, true}
+use Rattle.std.specs.Prelude.{◌≡◌, ◌≢◌, ◌==◌, ◌↔◌, ◌⊎◌, ℕ, ◌≤◌, ◌<◌, ◌^◌, if◌then◌else◌, IfSome, Bool, IsTrue, List, [], codes, Ok, map, unwrap_or, Option, Some, None, is_some, option_and_then, option_map, String, string_bytes, false, true}
 use Rattle.std.specs.declared.alloc.Global.{Global}
 use Rattle.std.specs.Borrow.{Bor}
 use Rattle.std.specs.Str.Parse.{IsNumeral, digits_value, without_leading_plus}
@@ -14,7 +14,7 @@ use Rattle.bpfjobs_cli.specs.declared.ask.AskWord.TheVariants as word
 use Rattle.bpfjobs_cli.specs.declared.ask.ServerQuestion.{ServerQuestion}
 use Rattle.bpfjobs_cli.specs.declared.ask.ServerQuestion.TheVariants as question
 use Rattle.bpfjobs_cli.specs.declared.commands.Command.{Command}
-use Rattle.bpfjobs_cli.specs.declared.commands.Command.TheVariants.{Assemble, Disassemble, Verify, Play, Run, Serve, Journal, Ask}
+use Rattle.bpfjobs_cli.specs.declared.commands.Command.TheVariants.{Assemble, Disassemble, Verify, Play, Run, Serve, Journal, Ask, Job, Check}
 use Rattle.bpfjobs_cli.specs.declared.commands.Endpoint.{Endpoint}
 use Rattle.bpfjobs_cli.specs.declared.commands.Endpoint.TheVariants.{Port, Socket}
 use Rattle.bpfjobs_cli.specs.declared.commands.EndpointFault.{EndpointFault}
@@ -23,11 +23,16 @@ use Rattle.bpfjobs_cli.specs.declared.commands.Serve.{Serve as Server}
 use Rattle.bpfjobs_cli.specs.declared.commands.ServeOptions.{ServeOptions}
 use Rattle.bpfjobs_cli.specs.declared.commands.Shown.{Shown}
 use Rattle.bpfjobs_cli.specs.declared.commands.Usage.{Usage}
+use Rattle.bpfjobs_cli.specs.declared.job_sources.JobSources.{JobSources}
+use Rattle.bpfjobs_cli.specs.declared.job_sources.JobWordFault.{JobWordFault}
+use Rattle.bpfjobs_cli.specs.declared.job_sources.JobWordFault.TheVariants as word_fault
 use Rattle.bpfjobs_cli.specs.declared.journal_sync.JournalSync.{JournalSync}
 use Rattle.bpfjobs_cli.specs.declared.tenant_socket.TenantFault.{TenantFault}
 use Rattle.bpfjobs_cli.specs.declared.tenant_socket.TenantWords.{TenantWords}
 use Rattle.bpfjobs_cli.specs.declared.commands.Usage.TheVariants as usage
 use Rattle.bpfjobs_cli.specs.AskWords.{ask_word, words_fit}
+use Rattle.bpfjobs_cli.specs.JobUsages.{IsBufferFault, IsScheduleFault, IsWordsFault, IsWordUsageBy}
+use Rattle.bpfjobs_cli.specs.JobWords.{buffer_said, said_source, schedule_by, source_said}
 use Rattle.bpfjobs_cli.specs.JournalSyncs.{sync_by}
 use Rattle.bpfjobs_cli.specs.Program.{bpfjobs_app}
 use Rattle.bpfjobs_cli.specs.Tenants.{AreTenants, IsWrongWord, entered, is_socket_path, tenants_in, words_said}
@@ -241,6 +246,31 @@ IsAskFault rows ask_fault.Words =
     (option_and_then ask_word (first_of (codes "word") rows) ≡ None)
     ⊎ ((w : AskWord) × IsAskWordOf rows w × AreFit rows w false) ⊎ NamesNoJob rows
 
+-- the words FILE:NEED, in their order
+abbrev pub source_words : List Row → List Text
+source_words rows = unwrap_or (all_of (codes "sources") rows) []
+
+-- a job of source files
+pub record IsSourceJobOf (rows : List Row) (job : JobSources) : Type 0 where
+  pub credit : IsNumberIn rows (codes "credit") 0 4294967295 job.credit
+  pub buffer : option_and_then buffer_said (first_of (codes "buffer") rows) ≡ Some job.buffer.items
+  pub schedule : schedule_by (first_of (codes "schedule") rows) ≡ Some job.schedule.items
+  pub sources : map source_said (source_words rows) ≡ map said_source job.sources.items
+
+-- a word says no source, or the buffer or the schedule is none
+abbrev pub IsJobFault : List Row → JobWordFault → Type 0
+IsJobFault rows (word_fault.Source told) =
+    IsWordsFault (source_words rows) (word_fault.Source told)
+IsJobFault rows word_fault.Buffer =
+    IsBufferFault (first_of (codes "buffer") rows) word_fault.Buffer
+IsJobFault rows word_fault.Schedule =
+    IsScheduleFault (first_of (codes "schedule") rows) word_fault.Schedule
+
+-- both of two files are the standard input
+abbrev pub AreOneInput : List Row → Type 0
+AreOneInput rows = (first_of (codes "job") rows ≡ Some (codes "-"))
+    × (first_of (codes "result") rows ≡ Some (codes "-"))
+
 abbrev pub IsCommandOf : Text → List Row → Command → Type 0
 IsCommandOf name rows Assemble = name ≡ codes "assemble"
 IsCommandOf name rows Disassemble = name ≡ codes "disassemble"
@@ -254,6 +284,10 @@ IsCommandOf name rows (Journal path checks) =
     (name ≡ codes "journal") × (first_of (codes "file") rows ≡ Some (string_bytes path))
     × IsFlagOf rows (codes "check") checks
 IsCommandOf name rows (Ask ask) = (name ≡ codes "ask") × IsAskOf rows ask
+IsCommandOf name rows (Job job) = (name ≡ codes "job") × IsSourceJobOf rows job
+IsCommandOf name rows (Check job result) =
+    (name ≡ codes "check") × (first_of (codes "job") rows ≡ Some (string_bytes job))
+    × (first_of (codes "result") rows ≡ Some (string_bytes result)) × (AreOneInput rows → ⊥)
 
 -- the file that a command reads: none where the words name none, or `-`, the standard input
 abbrev pub IsInputOf : List Row → Option (Bor Text) → Type 0
@@ -283,6 +317,16 @@ pub record SaysAsk (rows : List Row) : Type 0 where
   pub amount : (n : Option ℕ) × IsAmountOf rows n
   pub from : (n : Option ℕ) × IsFromOf rows n
 
+-- the words of `job` are a number and a buffer's word, and others
+pub record SaysJob (rows : List Row) : Type 0 where
+  pub credit : (n : ℕ) × IsNumberIn rows (codes "credit") 0 4294967295 n
+  pub buffer : HasText rows (codes "buffer")
+
+-- the words of `check` are two paths
+pub record SaysCheck (rows : List Row) : Type 0 where
+  pub job : HasText rows (codes "job")
+  pub result : HasText rows (codes "result")
+
 -- they are those of a command, but for a server's endpoint
 pub data SaysCommand (name : Text) (rows : List Row) : Type 0 where
   says_assemble : name ≡ codes "assemble" → SaysCommand name rows
@@ -295,6 +339,8 @@ pub data SaysCommand (name : Text) (rows : List Row) : Type 0 where
   says_serve : name ≡ codes "serve" → SaysServe rows → SaysCommand name rows
   says_journal : name ≡ codes "journal" → HasText rows (codes "file") → SaysCommand name rows
   says_ask : name ≡ codes "ask" → SaysAsk rows → SaysCommand name rows
+  says_job : name ≡ codes "job" → SaysJob rows → SaysCommand name rows
+  says_check : name ≡ codes "check" → SaysCheck rows → SaysCommand name rows
 
 -- the port is in range
 abbrev pub IsEndpointInRange : Endpoint → Type 0
@@ -326,6 +372,8 @@ IsInRange (Run workers) = (1 ≤ workers) × (workers ≤ 16)
 IsInRange (Serve serve) = IsServeInRange serve
 IsInRange (Journal path checks) = Unit {0}
 IsInRange (Ask ask) = IsEndpointInRange ask.endpoint × (ask.wait ≤ 3600)
+IsInRange (Job job) = Unit {0}
+IsInRange (Check job result) = Unit {0}
 
 -- the place of a server is refused for want of memory, or for what the words say of it
 abbrev pub IsPlaceUsage : List Row → Usage → Type 0
@@ -333,6 +381,8 @@ IsPlaceUsage rows (usage.Refused error) = ⊥
 IsPlaceUsage rows (usage.Endpoint fault) = IsEndpointFault rows fault
 IsPlaceUsage rows (usage.Tenant word f) = ⊥
 IsPlaceUsage rows (usage.Ask fault) = ⊥
+IsPlaceUsage rows (usage.Job fault) = ⊥
+IsPlaceUsage rows usage.TwoInputs = ⊥
 IsPlaceUsage rows usage.NoMemory = Unit {0}
 
 -- the words of `ask` are refused for want of memory, or for their own
@@ -341,6 +391,8 @@ IsAskUsage rows (usage.Refused error) = ⊥
 IsAskUsage rows (usage.Endpoint fault) = ⊥
 IsAskUsage rows (usage.Tenant word f) = ⊥
 IsAskUsage rows (usage.Ask fault) = IsAskFault rows fault
+IsAskUsage rows (usage.Job fault) = ⊥
+IsAskUsage rows usage.TwoInputs = ⊥
 IsAskUsage rows usage.NoMemory = Unit {0}
 
 -- the options of a server are refused for want of memory, for their endpoint, or for a tenant
@@ -349,10 +401,16 @@ IsEndpointUsage rows (usage.Refused error) = ⊥
 IsEndpointUsage rows (usage.Endpoint fault) = IsEndpointFault rows fault
 IsEndpointUsage rows (usage.Tenant word f) = IsTenantFault rows (string_bytes word) f
 IsEndpointUsage rows (usage.Ask fault) = ⊥
+IsEndpointUsage rows (usage.Job fault) = ⊥
+IsEndpointUsage rows usage.TwoInputs = ⊥
 IsEndpointUsage rows usage.NoMemory = Unit {0}
 
+-- the words of `job` are refused for want of memory, or for their own
+abbrev pub IsJobUsage : List Row → Usage → Type 0
+IsJobUsage rows = IsWordUsageBy (IsJobFault rows)
+
 -- the words of a command are refused for want of memory, as the options of a server, or as the
--- words of `ask`
+-- words of `ask`, `job` or `check`
 abbrev pub IsCommandUsage : Text → List Row → Usage → Type 0
 IsCommandUsage name rows (usage.Refused error) = ⊥
 IsCommandUsage name rows (usage.Endpoint fault) =
@@ -360,11 +418,13 @@ IsCommandUsage name rows (usage.Endpoint fault) =
 IsCommandUsage name rows (usage.Tenant word f) =
     (name ≡ codes "serve") × IsTenantFault rows (string_bytes word) f
 IsCommandUsage name rows (usage.Ask fault) = (name ≡ codes "ask") × IsAskFault rows fault
+IsCommandUsage name rows (usage.Job fault) = (name ≡ codes "job") × IsJobFault rows fault
+IsCommandUsage name rows usage.TwoInputs = (name ≡ codes "check") × AreOneInput rows
 IsCommandUsage name rows usage.NoMemory = Unit {0}
 
 -- Words that clap takes are refused for want of memory, where a server's options name no endpoint or
--- a word names no tenant, or where those of `ask` are no request. Any others are refused for want of
--- memory, or for a fault that clap finds in them.
+-- a word names no tenant, or where those of `ask`, `job` or `check` are no request, no job, or one
+-- input twice. Any others are refused for want of memory, or for a fault that clap finds in them.
 abbrev pub IsUsage : Usage → List Text → Type 0
 IsUsage (usage.Refused error) words =
     (takes bpfjobs_app words ≡ true → kind_of error ≡ OutOfMemory)
@@ -379,6 +439,12 @@ IsUsage (usage.Tenant word f) words =
 IsUsage (usage.Ask fault) words =
     (fault_of bpfjobs_app words ≡ []) × (rows : List Row)
     × (subcommand_of bpfjobs_app words ≡ Some (codes "ask", rows)) × IsAskFault rows fault
+IsUsage (usage.Job fault) words =
+    (fault_of bpfjobs_app words ≡ []) × (rows : List Row)
+    × (subcommand_of bpfjobs_app words ≡ Some (codes "job", rows)) × IsJobFault rows fault
+IsUsage usage.TwoInputs words =
+    (fault_of bpfjobs_app words ≡ []) × (rows : List Row)
+    × (subcommand_of bpfjobs_app words ≡ Some (codes "check", rows)) × AreOneInput rows
 IsUsage usage.NoMemory words = Unit {0}
 
 -- the words ask for help, or for the version: that is no mistake
@@ -387,4 +453,6 @@ AsksHelp (usage.Refused error) = (kind_of error ≡ DisplayHelp) ⊎ (kind_of er
 AsksHelp (usage.Endpoint fault) = ⊥
 AsksHelp (usage.Tenant word f) = ⊥
 AsksHelp (usage.Ask fault) = ⊥
+AsksHelp (usage.Job fault) = ⊥
+AsksHelp usage.TwoInputs = ⊥
 AsksHelp usage.NoMemory = ⊥

@@ -31,6 +31,8 @@ TellsWord word e (usage.Refused error) = ⊥
 TellsWord word e (usage.Endpoint fault) = ⊥
 TellsWord word e (usage.Tenant told f) = (string_bytes told ≡ word) × (e ≡ entry.Wrong f)
 TellsWord word e (usage.Ask fault) = ⊥
+TellsWord word e (usage.Job fault) = ⊥
+TellsWord word e usage.TwoInputs = ⊥
 TellsWord word e usage.NoMemory = Unit {0}
 
 -- a word is wrong, or there is no memory
@@ -39,4 +41,6 @@ IsWordUsage words (usage.Refused error) = ⊥
 IsWordUsage words (usage.Endpoint fault) = ⊥
 IsWordUsage words (usage.Tenant word f) = IsWrongWord words (string_bytes word) f
 IsWordUsage words (usage.Ask fault) = ⊥
+IsWordUsage words (usage.Job fault) = ⊥
+IsWordUsage words usage.TwoInputs = ⊥
 IsWordUsage words usage.NoMemory = Unit {0}

@@ -1,4 +1,6 @@
 pub mod Program
+pub mod TaskSummaries
+pub mod ResultChecks
 pub mod TenantLines
 pub mod Tenants
 pub mod JournalPaths
@@ -6,7 +8,10 @@ pub mod JournalSyncs
 pub mod Entries
 pub mod AskWords
 pub mod AskRequests
+pub mod JobTexts
+pub mod JobWords
 pub mod Commands
+pub mod JobUsages
 pub mod Printed
 pub mod Hexadecimal
 pub mod Programs

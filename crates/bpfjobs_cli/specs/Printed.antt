@@ -5,9 +5,10 @@ use Rattle.serde_json.specs.Data.{Data}
 use Rattle.serde_json.specs.Written.{compact_text}
 use Rattle.sessions.specs.Replies.{refusal_data}
 
--- a text and a status are these
-abbrev pub Prints : List ℕ → ℕ → List ℕ → ℕ → Type 0
-Prints text status line number = (text ≡ line) × (status ≡ number)
+-- a text, a status and the number of a refusal, if it is one, are these
+abbrev pub Prints : List ℕ → ℕ → Option ℕ → List ℕ → ℕ → Option ℕ → Type 0
+Prints text status code line number refusal =
+    (text ≡ line) × (status ≡ number) × (code ≡ refusal)
 
 -- `refused N`, or `refused N at K`
 abbrev pub refusal_line : ℕ → Option ℕ → List ℕ

@@ -1,5 +1,6 @@
 -- The program's command line, in clap's plain words.
 use Rattle.std.specs.Prelude.{[], ◌∷◌, codes, pos, Some, true}
+use Rattle.clap.specs.Lexer.{usize_max}
 use Rattle.clap.specs.Words.{App, Rule, new_app, new_rule, with_rule, with_subcommand}
 use Rattle.clap.specs.declared.builder.action.ArgAction.TheVariants.{Append, SetTrue}
 use Rattle.clap.specs.declared.builder.value_parser.ValueParser.TheVariants as vp
@@ -175,6 +176,41 @@ from_rule = record (new_rule (codes "from")) {
   parser = Some (vp.Unsigned 1 18446744073709551615);
 }
 
+abbrev pub job_credit_rule : Rule
+job_credit_rule = record (new_rule (codes "credit")) {
+  long = Some (codes "credit");
+  value_names = 1;
+  required = true;
+  parser = Some (vp.Signed (pos 0) (pos 4294967295));
+}
+
+abbrev pub buffer_rule : Rule
+buffer_rule = record (new_rule (codes "buffer")) {
+  long = Some (codes "buffer");
+  value_names = 1;
+  required = true;
+}
+
+abbrev pub schedule_rule : Rule
+schedule_rule = record (new_rule (codes "schedule")) {
+  long = Some (codes "schedule");
+  value_names = 1;
+}
+
+-- one file or more
+abbrev pub sources_rule : Rule
+sources_rule = record (new_rule (codes "sources")) {
+  range = Some (record { start_inclusive = 1; end_inclusive = usize_max });
+  value_names = 1;
+  required = true;
+}
+
+abbrev pub job_file_rule : Rule
+job_file_rule = record (new_rule (codes "job")) { value_names = 1; required = true }
+
+abbrev pub result_file_rule : Rule
+result_file_rule = record (new_rule (codes "result")) { value_names = 1; required = true }
+
 -- the file that is read in place of the standard input
 abbrev pub input_rule : Rule
 input_rule = record (new_rule (codes "input")) { value_names = 1 }
@@ -213,6 +249,14 @@ ask_app =
     (new_app (codes "ask")) port_rule) socket_rule) wait_rule) word_rule) subject_rule) amount_rule)
     key_rule) from_rule
 
+abbrev pub job_app : App
+job_app =
+    with_rule (with_rule (with_rule (with_rule (new_app (codes "job")) job_credit_rule) buffer_rule)
+    schedule_rule) sources_rule
+
+abbrev pub check_app : App
+check_app = with_rule (with_rule (new_app (codes "check")) job_file_rule) result_file_rule
+
 -- the program without its commands, which tells its version
 abbrev pub named_app : App
 named_app = record {
@@ -232,5 +276,6 @@ with_text_commands a =
 abbrev pub bpfjobs_app : App
 bpfjobs_app =
     with_subcommand (with_subcommand (with_subcommand (with_subcommand (with_subcommand
-    (with_subcommand (with_text_commands (requiring named_app)) verify_app.top) play_app.top)
-    run_app.top) serve_app.top) journal_app.top) ask_app.top
+    (with_subcommand (with_subcommand (with_subcommand (with_text_commands (requiring named_app))
+    verify_app.top) play_app.top) run_app.top) serve_app.top) journal_app.top) ask_app.top)
+    job_app.top) check_app.top

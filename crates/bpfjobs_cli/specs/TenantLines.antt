@@ -5,18 +5,20 @@ use Rattle.std.specs.List.{list_all}
 use Rattle.std.specs.Str.{bytes_eq}
 use Rattle.std.specs.Str.Parse.{digits_value}
 use Rattle.bpfjobs_cli.specs.declared.tenant_text.Delimiter.{Delimiter}
-use Rattle.bpfjobs_cli.specs.declared.tenant_text.Delimiter.TheVariants.{Equals, Blank, LineEnd}
+use Rattle.bpfjobs_cli.specs.declared.tenant_text.Delimiter.TheVariants.{Equals, Blank, LineEnd, Comma, Star}
 use Rattle.bpfjobs_cli.specs.declared.tenant_text.Said.{Said}
 use Rattle.bpfjobs_cli.specs.declared.tenant_text.Said.TheVariants as said
 use Rattle.bpfjobs_cli.specs.declared.tenant_text.Setting.{Setting}
 use Rattle.bpfjobs_cli.specs.declared.tenant_text.Setting.TheVariants as setting
 use Rattle.bpfjobs_cli.specs.declared.tenant_socket.TenantSettings.{TenantSettings}
 
--- `=`; a space, a tab or a carriage return; a line feed
+-- `=`; a space, a tab or a carriage return; a line feed; `,`; `*`
 abbrev pub is_delimiter : Delimiter → ℕ → Bool
 is_delimiter Equals c = c == 61
 is_delimiter Blank c = c == 32 || (c == 9 || c == 13)
 is_delimiter LineEnd c = c == 10
+is_delimiter Comma c = c == 44
+is_delimiter Star c = c == 42
 
 -- the part before the first delimiter, and the part from it on
 abbrev pub before_delimiter : Delimiter → List ℕ → List ℕ

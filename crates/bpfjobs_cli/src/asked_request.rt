@@ -29,8 +29,9 @@ fn account_value(alloc: Global, tenant: &Option<String>) -> Result<Value, AllocE
     }
 }
 
+/// The value of a program.
 #[tactic(auto, unfolding(crate::specs::AskRequests::asked_program))]
-fn program_value(alloc: Global, program: &ProgramBytes) -> Result<Value, AllocError>
+pub(crate) fn program_value(alloc: Global, program: &ProgramBytes) -> Result<Value, AllocError>
     ensures { IfOk result (λ v. view v ≡ asked_program program.now) }
 {
     let code = hex::encode(alloc, &program.code)?;

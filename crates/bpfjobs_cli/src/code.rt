@@ -1,6 +1,6 @@
 //! Programs: from source text to bytes and back, and the verdict.
 
-ghost use Rattle.std.specs.Prelude.{◌≡◌, ◌∷◌, ◌++◌, [], IfOk};
+ghost use Rattle.std.specs.Prelude.{◌≡◌, ◌∷◌, ◌++◌, [], IfOk, None};
 ghost use Rattle.hex.specs.Hex.{encode_lower};
 ghost use Rattle.bpfjobs_cli.specs.Printed.{Prints, accepted_line};
 ghost use Rattle.bpfjobs_cli.specs.Programs.{PrintsAssembly, PrintsListing, PrintsVerdict};
@@ -29,21 +29,22 @@ fn place_of(slot: Option<u32>) -> Option<u64>
 
 // Bytes in hexadecimal, in a line.
 fn in_hexadecimal(alloc: Global, bytes: &[u8]) -> Result<Answer, NoMemory>
-    ensures { IfOk result (λ answer. Prints answer.text.items answer.status (encode_lower bytes.now
-        ++ 10 ∷ []) 0) }
+    ensures { IfOk result (λ answer. Prints answer.text.items answer.status answer.code (encode_lower bytes.now
+        ++ 10 ∷ []) 0 None) }
 {
     let mut text = hex::encode(alloc, bytes)?;
     text.push('\n')?;
     Ok(Answer {
         text: text.into_bytes(),
         status: 0,
+        code: None,
     })
 }
 
 /// The bytes of the program that a source text says, in hexadecimal; or the refusal and its line.
 /// 73 where the input is no UTF-8.
 pub fn answer_assemble(alloc: Global, source: &[u8]) -> Result<Answer, NoMemory>
-    ensures { IfOk result (λ answer. PrintsAssembly source.now answer.text.items answer.status) }
+    ensures { IfOk result (λ answer. PrintsAssembly source.now answer.text.items answer.status answer.code) }
 {
     let text = match str::from_utf8(source) {
         Ok(text) => text,
@@ -58,7 +59,7 @@ pub fn answer_assemble(alloc: Global, source: &[u8]) -> Result<Answer, NoMemory>
 /// The lines of the program that the input writes in hexadecimal; or the refusal and its slot. 73
 /// where it isn't hexadecimal.
 pub fn answer_disassemble(alloc: Global, input: &[u8]) -> Result<Answer, NoMemory>
-    ensures { IfOk result (λ answer. PrintsListing input.now answer.text.items answer.status) }
+    ensures { IfOk result (λ answer. PrintsListing input.now answer.text.items answer.status answer.code) }
 {
     let bytes = match read_hexadecimal(alloc, input) {
         Ok(bytes) => bytes,
@@ -69,6 +70,7 @@ pub fn answer_disassemble(alloc: Global, input: &[u8]) -> Result<Answer, NoMemor
         Ok(lines) => Ok(Answer {
             text: lines.into_bytes(),
             status: 0,
+            code: None,
         }),
         Err(fault) => answer_refusal(alloc, fault.code(), place_of(fault.slot())),
     }
@@ -77,19 +79,20 @@ pub fn answer_disassemble(alloc: Global, input: &[u8]) -> Result<Answer, NoMemor
 // The line of a program that is accepted.
 fn answer_cost(alloc: Global, cost: u32) -> Result<Answer, NoMemory>
     ensures { IfOk result (λ answer.
-        Prints answer.text.items answer.status (accepted_line cost) 0) }
+        Prints answer.text.items answer.status answer.code (accepted_line cost) 0 None) }
 {
     let line = format!(in alloc; "accepted cost {cost}\n")?;
     Ok(Answer {
         text: line.into_bytes(),
         status: 0,
+        code: None,
     })
 }
 
 /// The cost of the program that the input writes in hexadecimal, which calls the helpers of a job
 /// and needs so many bytes; or the refusal and its slot. 73 where the input isn't hexadecimal.
 pub fn answer_verify(alloc: Global, need: u32, input: &[u8]) -> Result<Answer, NoMemory>
-    ensures { IfOk result (λ answer. PrintsVerdict need input.now answer.text.items answer.status) }
+    ensures { IfOk result (λ answer. PrintsVerdict need input.now answer.text.items answer.status answer.code) }
 {
     let code = match read_hexadecimal(alloc, input) {
         Ok(code) => code,

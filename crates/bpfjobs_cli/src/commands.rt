@@ -1,6 +1,7 @@
 //! The meaning of a command line's words: a command with its numbers, or why there is none.
 
 use crate::ask::{Ask, AskFault};
+use crate::job_sources::{JobSources, JobWordFault};
 use crate::journal_sync::JournalSync;
 use crate::tenant_socket::{TenantFault, TenantWords};
 use clap::Error;
@@ -25,6 +26,10 @@ pub enum Command {
     Journal { path: String, checks: bool },
     /// A request to a server that runs.
     Ask(Ask),
+    /// The job object of source files.
+    Job(JobSources),
+    /// The verdict on the result of a job, by the paths of both: one may be `-`, the standard input.
+    Check { job: String, result: String },
 }
 
 /// A server: where it listens, for which tenants apart, its journal and when that is synced, and its
@@ -155,6 +160,10 @@ pub enum Usage {
     Tenant(String, TenantFault),
     /// clap takes them, but they are no request to a server.
     Ask(AskFault),
+    /// clap takes them, but they are no job of source files.
+    Job(JobWordFault),
+    /// clap takes them, but both files that they name are the standard input.
+    TwoInputs,
     /// A growth was refused: 99.
     NoMemory,
 }
@@ -177,6 +186,8 @@ impl Usage {
             Usage::Endpoint(_) => MISTAKEN,
             Usage::Tenant(_, _) => MISTAKEN,
             Usage::Ask(_) => MISTAKEN,
+            Usage::Job(_) => MISTAKEN,
+            Usage::TwoInputs => MISTAKEN,
             Usage::NoMemory => MISTAKEN,
         }
     }

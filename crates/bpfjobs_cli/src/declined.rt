@@ -1,8 +1,8 @@
 //! The job that the input says, or why there is none.
 
-ghost use Rattle.std.specs.Prelude.{◌≡◌, IfOk, IfErr, Bool};
+ghost use Rattle.std.specs.Prelude.{◌≡◌, IfOk, IfErr, Bool, Some};
 ghost use Rattle.bpfjobs_cli.specs.Printed.{Prints};
-ghost use Rattle.bpfjobs_cli.specs.Jobs.{IsOrdered, IsDeclined, declined_line};
+ghost use Rattle.bpfjobs_cli.specs.Jobs.{IsOrdered, IsDeclined, declined_code, declined_line};
 
 use crate::answer::{Answer, answer_reply};
 use job_core::{AdmitFault, Job, admit};
@@ -20,10 +20,21 @@ pub enum JobDeclined {
 }
 
 impl JobDeclined {
+    /// The refusal's number.
+    pub fn code(&self) -> u8
+        ensures { result ≡ declined_code self.now }
+    {
+        match self {
+            JobDeclined::Object(fault) => fault.code(),
+            JobDeclined::Job(fault) => fault.code(),
+        }
+    }
+
     /// The refusal as a reply.
     pub fn answer(&self, alloc: Global) -> Result<Answer, NoMemory>
         ensures { IfOk result
-            (λ answer. Prints answer.text.items answer.status (declined_line self.now) 1) }
+            (λ answer. Prints answer.text.items answer.status answer.code (declined_line self.now) 1
+            (Some (declined_code self.now))) }
     {
         let refusal = match self {
             JobDeclined::Object(fault) => Reply::Refused {

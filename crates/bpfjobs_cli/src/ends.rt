@@ -22,6 +22,8 @@ const PIECE_LEN: usize = 4096;
 pub struct Performed {
     /// The status: 0 answered, 1 refused.
     pub status: u8,
+    /// The number of the refusal that it told, if it was one.
+    pub code: Option<u8>,
     /// The whole input, which it read.
     pub input: Vec<u8>,
 }
@@ -78,7 +80,7 @@ pub fn tell<W: Sink>(writer: &mut W, answer: &Answer) -> Result<u8, StreamFault>
 // What is answered to the input, by a command that needs no thread.
 fn answer_to(alloc: Global, command: Command, input: &[u8]) -> Result<Answer, NoMemory>
     requires { NeedsNoThread command }
-    ensures { IfOk result (λ answer. IsAnswer command input.now answer.text.items answer.status) }
+    ensures { IfOk result (λ answer. IsAnswer command input.now answer.text.items answer.status answer.code) }
 {
     match command {
         Command::Assemble => answer_assemble(alloc, input),
@@ -89,6 +91,8 @@ fn answer_to(alloc: Global, command: Command, input: &[u8]) -> Result<Answer, No
         Command::Serve(_) => unreachable!(),
         Command::Journal { .. } => unreachable!(),
         Command::Ask(_) => unreachable!(),
+        Command::Job(_) => unreachable!(),
+        Command::Check { .. } => unreachable!(),
     }
 }
 
@@ -109,7 +113,7 @@ pub fn perform_alone<R: Source, W: Sink>(
     requires sink { W.has_failed writer.old ≡ false }
     ensures done { IfOk result (λ done. AnswersAll command (R.transcript reader.old)
         (R.transcript reader.new) (R.is_over reader.new ≡ true) (W.transcript writer.old)
-        (W.transcript writer.new) done.status) }
+        (W.transcript writer.new) done.status done.code) }
     ensures input { IfOk result (λ done. R.transcript reader.new ≡ R.transcript reader.old
         ++ done.input.items) }
     ensures stopped { IfErr result (λ fault. GivesUp command (R.transcript reader.old)
@@ -124,15 +128,20 @@ pub fn perform_alone<R: Source, W: Sink>(
 {
     let input = read_all(alloc, reader)?;
     let answer = answer_to(alloc, command, &input)?;
+    let code = answer.code;
     match tell(writer, &answer) {
-        Ok(status) => Ok(Performed { status, input }),
+        Ok(status) => Ok(Performed {
+            status,
+            code,
+            input,
+        }),
         Err(fault) => Err(fault),
     }
 }
 
-/// Reads the whole input, writes the answer of any command but `serve`, `journal` and `ask`, and
-/// gives the status with that input. A `run` waits for its threads, so that of this call it isn't proved
-/// that it returns; of `perform_alone`, which all others go to, it is. The faults are the same.
+/// Reads the whole input, writes the answer of any command that has one to it, and gives the status
+/// with that input. A `run` waits for its threads, so that of this call it isn't proved that it
+/// returns; of `perform_alone`, which all others go to, it is. The faults are the same.
 pub fn perform<T: Threads + Wait + Sync, R: Source, W: Sink>(
     rt: &T,
     alloc: Global,
@@ -145,7 +154,7 @@ pub fn perform<T: Threads + Wait + Sync, R: Source, W: Sink>(
     requires sink { W.has_failed writer.old ≡ false }
     ensures done { IfOk result (λ done. AnswersAll command (R.transcript reader.old)
         (R.transcript reader.new) (R.is_over reader.new ≡ true) (W.transcript writer.old)
-        (W.transcript writer.new) done.status) }
+        (W.transcript writer.new) done.status done.code) }
     ensures input { IfOk result (λ done. R.transcript reader.new ≡ R.transcript reader.old
         ++ done.input.items) }
     ensures stopped { IfErr result (λ fault. GivesUp command (R.transcript reader.old)
@@ -162,14 +171,21 @@ pub fn perform<T: Threads + Wait + Sync, R: Source, W: Sink>(
         Command::Run { workers } => {
             let input = read_all(alloc, reader)?;
             let answer = answer_run(rt, alloc, workers, &input)?;
+            let code = answer.code;
             match tell(writer, &answer) {
-                Ok(status) => Ok(Performed { status, input }),
+                Ok(status) => Ok(Performed {
+                    status,
+                    code,
+                    input,
+                }),
                 Err(fault) => Err(fault),
             }
         }
         Command::Serve(_) => unreachable!(),
         Command::Journal { .. } => unreachable!(),
         Command::Ask(_) => unreachable!(),
+        Command::Job(_) => unreachable!(),
+        Command::Check { .. } => unreachable!(),
         alone => perform_alone(alloc, alone, reader, writer),
     }
 }

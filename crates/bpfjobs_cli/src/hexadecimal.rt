@@ -32,8 +32,8 @@ fn trim(text: &[u8]) -> &[u8]
     &text[..end]
 }
 
-// Why there are no bytes: for want of memory only where that was refused.
-fn why(error: FromHexError) -> Unread
+/// Why there are no bytes: for want of memory only where that was refused.
+pub(crate) fn why(error: FromHexError) -> Unread
     ensures { (result ≡ unread.NoMemory) ↔ (error ≡ FromHexError.OutOfMemory) }
 {
     match error {

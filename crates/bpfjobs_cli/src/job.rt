@@ -16,7 +16,7 @@ use std::alloc::Global;
 // How far the job is.
 fn answer_world(alloc: Global, world: &World) -> Result<Answer, NoMemory>
     ensures { IfOk result (λ answer. (j : model.JobState) → RepresentsJob world.now j
-        → PrintsProgress j answer.text.items answer.status) }
+        → PrintsProgress j answer.text.items answer.status answer.code) }
 {
     let buffer = world.buffer(alloc)?;
     let totals = world.totals();
@@ -34,7 +34,7 @@ fn answer_world(alloc: Global, world: &World) -> Result<Answer, NoMemory>
 /// How far the job that the input says comes by its schedule, as the reply; or the refusal as a
 /// reply.
 pub fn answer_play(alloc: Global, input: &[u8]) -> Result<Answer, NoMemory>
-    ensures { IfOk result (λ answer. PrintsPlay input.now answer.text.items answer.status) }
+    ensures { IfOk result (λ answer. PrintsPlay input.now answer.text.items answer.status answer.code) }
 {
     let (job, schedule) = match read_job(alloc, input, true) {
         Ok(order) => order,

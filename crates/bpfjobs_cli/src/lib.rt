@@ -8,6 +8,9 @@ mod asked_request;
 mod asking;
 mod commands;
 mod desk_paths;
+mod job_reading;
+mod job_sources;
+mod job_words;
 mod journal_sync;
 mod process;
 mod program;
@@ -25,6 +28,7 @@ pub use commands::{
     Command, CommandRequest, Endpoint, EndpointFault, Serve, ServeOptions, Shown, Usage,
 };
 pub use desk_paths::journal_paths;
+pub use job_sources::{JobSources, JobWordFault, ProgramSource};
 pub use journal_sync::JournalSync;
 pub use process::{FAILED, UNREAD, print_usage, words};
 pub use reading::{command, request};
@@ -46,13 +50,24 @@ pub use hexadecimal::{Unread, read_hexadecimal};
 // jobs, as JSON
 mod declined;
 mod job;
+mod job_texts;
 mod object_faults;
 mod run;
+mod run_watch;
 
 pub use declined::{JobDeclined, read_job};
 pub use job::answer_play;
+pub use job_texts::job_text;
 pub use object_faults::{ObjectFault, ObjectPart, object_fault};
-pub use run::answer_run;
+pub use run::{answer_run, answer_watched};
+pub use run_watch::RunWatch;
+
+// whether a result is the one answer of its job
+mod result_check;
+mod task_summaries;
+
+pub use result_check::{ResultDifference, ResultVerdict, check_result};
+pub use task_summaries::{TaskSummary, UnsharedTask};
 
 // what is shown of a job: the job that the input says, as the definitions have it, its steps and its
 // tree, and these as text

@@ -4,6 +4,7 @@ ghost use Rattle.std.specs.Prelude.{◌≡◌};
 ghost use Rattle.bpfjobs_cli.specs.Commands.{AsksHelp};
 
 use crate::commands::Usage;
+use crate::job_sources::JobWordFault;
 use std::env::Env;
 use std::{env, io};
 
@@ -43,6 +44,22 @@ pub fn print_usage<R: Print + Eprint>(rt: &R, usage: Usage) -> u8
         Usage::Ask(fault) => {
             let text = fault.text();
             let _ = eprintln!(rt; "{text}");
+        }
+        Usage::Job(fault) => {
+            let _ = match fault {
+                JobWordFault::Source(word) => eprintln!(rt;
+                    "error: job takes words FILE:NEED, with a NEED from 0 to 4294967295, and not {word}"
+                ),
+                JobWordFault::Buffer => eprintln!(rt;
+                    "error: job takes --buffer HEX or --buffer HEX*COUNT, of 65536 bytes at most"
+                ),
+                JobWordFault::Schedule => eprintln!(rt;
+                    "error: job takes --schedule NUMBER,NUMBER,.. of tasks, from 0 to 4294967295"
+                ),
+            };
+        }
+        Usage::TwoInputs => {
+            let _ = eprintln!(rt; "error: check takes - for one of its files, and not for both");
         }
         Usage::NoMemory => {}
     }

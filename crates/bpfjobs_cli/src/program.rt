@@ -3,7 +3,7 @@
 ghost use Rattle.std.specs.Prelude.{◌≡◌, false, codes, IfOk};
 ghost use Rattle.clap.specs.Words.{app_of, new_app, rule_of};
 ghost use Rattle.clap.specs.declared.builder.command.Command.TheViews.{out-Command as fields_of};
-ghost use Rattle.bpfjobs_cli.specs.Program.{need_rule, port_rule, socket_rule, grants_rule, tenant_rule, tenants_rule, tenant_jobs_rule, workers_rule, sessions_rule, clients_rule, timeout_rule, open_jobs_rule, keep_rule, keep_bytes_rule, journal_rule, journal_sync_rule, until_eof_rule, log_rule, trace_rule, trace_json_rule, tree_rule, journal_file_rule, check_rule, word_rule, subject_rule, amount_rule, wait_rule, key_rule, from_rule, input_rule, named_app, requiring, assemble_app, disassemble_app, verify_app, play_app, run_app, serve_app, journal_app, ask_app, bpfjobs_app, with_text_commands};
+ghost use Rattle.bpfjobs_cli.specs.Program.{need_rule, port_rule, socket_rule, grants_rule, tenant_rule, tenants_rule, tenant_jobs_rule, workers_rule, sessions_rule, clients_rule, timeout_rule, open_jobs_rule, keep_rule, keep_bytes_rule, journal_rule, journal_sync_rule, until_eof_rule, log_rule, trace_rule, trace_json_rule, tree_rule, journal_file_rule, check_rule, word_rule, subject_rule, amount_rule, wait_rule, key_rule, from_rule, job_credit_rule, buffer_rule, schedule_rule, sources_rule, job_file_rule, result_file_rule, input_rule, named_app, requiring, assemble_app, disassemble_app, verify_app, play_app, run_app, serve_app, journal_app, ask_app, job_app, check_app, bpfjobs_app, with_text_commands};
 
 use crate::texts;
 use clap::{Arg, ArgAction, Command};
@@ -319,6 +319,70 @@ fn from<'a>(alloc: Global) -> Arg<'a>
         .value_parser(clap::value_parser!(u64).range(1..))
 }
 
+fn credit<'a>(alloc: Global) -> Arg<'a>
+    ensures rule { rule_of result ≡ job_credit_rule }
+    ensures local { result.global ≡ false }
+{
+    Arg::new(alloc, "credit")
+        .long("credit")
+        .value_name("CREDIT")
+        .help(texts::CREDIT)
+        .required(true)
+        .value_parser(clap::value_parser!(u32).range(0..=4294967295))
+}
+
+fn buffer<'a>(alloc: Global) -> Arg<'a>
+    ensures rule { rule_of result ≡ buffer_rule }
+    ensures local { result.global ≡ false }
+{
+    Arg::new(alloc, "buffer")
+        .long("buffer")
+        .value_name("HEX|HEX*COUNT")
+        .help(texts::BUFFER)
+        .required(true)
+}
+
+fn schedule<'a>(alloc: Global) -> Arg<'a>
+    ensures rule { rule_of result ≡ schedule_rule }
+    ensures local { result.global ≡ false }
+{
+    Arg::new(alloc, "schedule")
+        .long("schedule")
+        .value_name("NUMBERS")
+        .help(texts::SCHEDULE)
+}
+
+fn sources<'a>(alloc: Global) -> Arg<'a>
+    ensures rule { rule_of result ≡ sources_rule }
+    ensures local { result.global ≡ false }
+{
+    Arg::new(alloc, "sources")
+        .value_name("FILE:NEED")
+        .help(texts::SOURCES)
+        .num_args(1..)
+        .required(true)
+}
+
+fn job_file<'a>(alloc: Global) -> Arg<'a>
+    ensures rule { rule_of result ≡ job_file_rule }
+    ensures local { result.global ≡ false }
+{
+    Arg::new(alloc, "job")
+        .value_name("JOB")
+        .help(texts::JOB_FILE)
+        .required(true)
+}
+
+fn result_file<'a>(alloc: Global) -> Arg<'a>
+    ensures rule { rule_of result ≡ result_file_rule }
+    ensures local { result.global ≡ false }
+{
+    Arg::new(alloc, "result")
+        .value_name("RESULT")
+        .help(texts::RESULT_FILE)
+        .required(true)
+}
+
 fn input<'a>(alloc: Global) -> Arg<'a>
     ensures rule { rule_of result ≡ input_rule }
     ensures local { result.global ≡ false }
@@ -472,6 +536,31 @@ fn ask<'a>(alloc: Global) -> Result<Command<'a>, AllocError>
         .arg(from(alloc))
 }
 
+fn write_job<'a>(alloc: Global) -> Result<Command<'a>, AllocError>
+    ensures app { IfOk result (λ c. app_of c ≡ job_app) }
+    ensures local { IfOk result (λ c. (fields_of c).has_globals ≡ false) }
+{
+    named(alloc, "job", texts::JOB, texts::JOB_MORE)
+        .arg(credit(alloc))?
+        .arg(buffer(alloc))?
+        .arg(schedule(alloc))?
+        .arg(sources(alloc))
+}
+
+fn check_result<'a>(alloc: Global) -> Result<Command<'a>, AllocError>
+    ensures app { IfOk result (λ c. app_of c ≡ check_app) }
+    ensures local { IfOk result (λ c. (fields_of c).has_globals ≡ false) }
+{
+    named(
+        alloc,
+        "check",
+        texts::CHECK_RESULT,
+        texts::CHECK_RESULT_MORE,
+    )
+    .arg(job_file(alloc))?
+    .arg(result_file(alloc))
+}
+
 // The program with the commands between text and bytes.
 fn with_texts<'a>(alloc: Global, command: Command<'a>) -> Result<Command<'a>, AllocError>
     ensures { IfOk result (λ c. app_of c ≡ with_text_commands (app_of command.entry)) }
@@ -491,5 +580,7 @@ pub(crate) fn bpfjobs<'a>(alloc: Global) -> Result<Command<'a>, AllocError>
     let command = command.subcommand(run(alloc)?)?;
     let command = command.subcommand(serve(alloc)?)?;
     let command = command.subcommand(read_journal(alloc)?)?;
-    command.subcommand(ask(alloc)?)
+    let command = command.subcommand(ask(alloc)?)?;
+    let command = command.subcommand(write_job(alloc)?)?;
+    command.subcommand(check_result(alloc)?)
 }

@@ -1,6 +1,7 @@
 //! The command that words say.
 
-ghost use Rattle.std.specs.Prelude.{◌≡◌, ◌⊎◌, [], Ok, ℕ, true, false, map, codes, IfOk, IfErr, IfSome, Option, Some, String, option_map, string_bytes, List};
+ghost use Rattle.std.specs.Prelude.{◌≡◌, ◌&&◌, ◌⊎◌, [], Ok, ℕ, true, false, map, codes, IfOk, IfErr, IfSome, Option, Some, String, option_map, string_bytes, List};
+ghost use Rattle.std.specs.Str.{bytes_eq};
 ghost use Rattle.std.specs.declared.alloc.Global.{Global};
 ghost use Rattle.clap.specs.Words.{Row, Text, found_of, first_of, rows_of, subcommand_of};
 ghost use Rattle.bpfjobs_cli.specs.declared.commands.ServeOptions.{ServeOptions};
@@ -10,12 +11,13 @@ ghost use Rattle.bpfjobs_cli.specs.declared.commands.EndpointFault.TheVariants a
 ghost use Rattle.bpfjobs_cli.specs.declared.commands.Usage.TheVariants as usage_of;
 ghost use Rattle.bpfjobs_cli.specs.Tenants.{entered, is_socket_path, tenants_in, words_said};
 ghost use Rattle.bpfjobs_cli.specs.Entries.{IsWordUsage};
-ghost use Rattle.bpfjobs_cli.specs.Commands.{AreJobsOf, AreOptionsOf, AreTenantsOf, HasText, IsCommandOf, IsCommandUsage, IsEndpointOf, IsEndpointUsage, IsFlagOf, IsInRange, IsInputOf, IsJournalOf, IsMaybeNumber, IsNumberIn, IsPlaceUsage, IsServeOf, IsShownOf, IsSyncOf, IsUsage, NameNoTenant, NameTenants, SaysCommand, SaysServe, sessions_said, tenant_words};
+ghost use Rattle.bpfjobs_cli.specs.Commands.{AreJobsOf, AreOptionsOf, AreTenantsOf, HasText, IsCommandOf, IsCommandUsage, IsEndpointOf, IsEndpointUsage, IsFlagOf, IsInRange, IsInputOf, IsJournalOf, IsMaybeNumber, IsNumberIn, IsPlaceUsage, IsServeOf, IsShownOf, IsSyncOf, IsUsage, NameNoTenant, NameTenants, SaysCheck, SaysCommand, SaysServe, sessions_said, tenant_words};
 
 use crate::asking::ask_of;
 use crate::commands::{
     Command, CommandRequest, Endpoint, EndpointFault, Serve, ServeOptions, Shown, Usage,
 };
+use crate::job_reading::job_of;
 use crate::journal_sync::{JournalSync, sync_said};
 use crate::program::bpfjobs;
 use crate::socket_path::is_socket_path;
@@ -33,6 +35,16 @@ pub(crate) fn number(matches: &ArgMatches<'_>, id: &str, low: u32, high: u32) ->
         Some(number) => number,
         None => unreachable!(),
     }
+}
+
+// Whether both paths are that of the standard input.
+fn are_inputs(first: &str, second: &str) -> bool
+    ensures { result ≡ (bytes_eq first.now (codes "-") && bytes_eq second.now (codes "-")) }
+{
+    if first == "-" {
+        return second == "-";
+    }
+    false
 }
 
 // Whether a flag stands among the words.
@@ -337,6 +349,26 @@ fn journal_command(alloc: Global, matches: &ArgMatches<'_>) -> Result<Command, A
     }
 }
 
+// The two files that the words of `check` name, of which one at most is the standard input.
+fn check_command(alloc: Global, matches: &ArgMatches<'_>) -> Result<Command, Usage>
+    requires { SaysCheck (rows_of (found_of matches.now)) }
+    ensures ok { IfOk result (λ command.
+        IsCommandOf (codes "check") (rows_of (found_of matches.now)) command) }
+    ensures err { IfErr result (λ usage.
+        IsCommandUsage (codes "check") (rows_of (found_of matches.now)) usage) }
+{
+    let Some(job) = text(alloc, matches, "job")? else {
+        unreachable!()
+    };
+    let Some(result) = text(alloc, matches, "result")? else {
+        unreachable!()
+    };
+    if are_inputs(&job, &result) {
+        return Err(Usage::TwoInputs);
+    }
+    Ok(Command::Check { job, result })
+}
+
 fn command_of(alloc: Global, name: &str, matches: &ArgMatches<'_>) -> Result<Command, Usage>
     requires { SaysCommand name.now (rows_of (found_of matches.now)) }
     ensures ok { IfOk result (λ command.
@@ -368,6 +400,11 @@ fn command_of(alloc: Global, name: &str, matches: &ArgMatches<'_>) -> Result<Com
             Ok(ask) => Ok(Command::Ask(ask)),
             Err(usage) => Err(usage),
         },
+        "job" => match job_of(alloc, matches) {
+            Ok(job) => Ok(Command::Job(job)),
+            Err(usage) => Err(usage),
+        },
+        "check" => check_command(alloc, matches),
         _ => unreachable!(),
     }
 }

@@ -20,6 +20,10 @@ pub(crate) enum Delimiter {
     Blank,
     /// A line feed.
     LineEnd,
+    /// `,`.
+    Comma,
+    /// `*`.
+    Star,
 }
 
 /// What a word or a line says.
@@ -55,6 +59,8 @@ fn is_delimiter(delimiter: Delimiter, byte: u8) -> bool
         Delimiter::Equals => byte == b'=',
         Delimiter::Blank => matches!(byte, b' ' | b'\t' | b'\r'),
         Delimiter::LineEnd => byte == b'\n',
+        Delimiter::Comma => byte == b',',
+        Delimiter::Star => byte == b'*',
     }
 }
 

@@ -67,6 +67,7 @@ pub(crate) const RUN: &str = "Runs a job to its end on threads";
 
 pub(crate) const RUN_MORE: &str = "Reads a job as JSON: programs, credit and buffer.
 Writes the buffer, the credit that was returned and spent, and each task, or a refusal.
+Where standard error is a terminal, a line there tells meanwhile how far the job is.
 Status: 0 run, 1 refused, 3 where input or output fails.
 
 Example:
@@ -157,6 +158,47 @@ Example:
   $ bpfjobs serve --socket door --sessions 1 &
   $ bpfjobs ask --wait 10 --socket door grant t 100
   {\"balance\":100,\"granted\":100,\"ok\":true,\"open\":0,\"spent\":0}";
+
+pub(crate) const JOB: &str = "Writes the job object of source files";
+
+pub(crate) const JOB_MORE: &str =
+    "Reads files of source text, assembles each, and writes the job of these programs as JSON, in a
+line: run, play and ask .. submit read it. Program 0 is the root's.
+Status: 0 written, 1 a source is refused, 2 wrong words, 3 where a file or the output fails: then a
+line on standard error says why.
+
+Example:
+  $ bpfjobs job --credit 4 --buffer 00*8 answer.bpf:8 > job.json
+  $ bpfjobs run job.json";
+
+pub(crate) const CREDIT: &str = "The credit of the job, 0 to 4294967295";
+
+pub(crate) const BUFFER: &str =
+    "The buffer in hexadecimal, or bytes so often: 00*8 has eight zeros; at most 65536 bytes";
+
+pub(crate) const SCHEDULE: &str =
+    "The numbers of tasks by which play runs the job, as 0,1,1; none, where it is left out";
+
+pub(crate) const SOURCES: &str =
+    "A file of source text, and the bytes of its part that the program may count on";
+
+pub(crate) const CHECK_RESULT: &str = "Judges the result of a job";
+
+pub(crate) const CHECK_RESULT_MORE: &str =
+    "Reads a job object and a result as run, or ask .. result, writes it. Runs the job again, task by
+task, and tells whether the result is its one answer: the buffer, spent, returned, and each task
+once, by its program, r0, spent and rest. The numbers of tasks may differ. One of the two files may
+be `-`, the standard input.
+Status: 0 it is the answer, 1 it isn't, or one of the two is refused, 2 wrong words, 3 where a file
+or the output fails, or there is no memory.
+
+Example:
+  $ bpfjobs run job.json | bpfjobs check job.json -
+  the result is the job's one answer";
+
+pub(crate) const JOB_FILE: &str = "The path of the job object, or `-`, the standard input";
+
+pub(crate) const RESULT_FILE: &str = "The path of the result, or `-`, the standard input";
 
 pub(crate) const WORD: &str = "account, submit, status, result, jobs, grant, server or stop";
 

@@ -48,7 +48,7 @@ fn answered<R: Print + Eprint>(rt: &R, answer: &Answer) -> u8 {
 // Prints a graph, also one of a program that is refused, or the refusal of what has none, and gives
 // the status.
 fn drawn<R: Print + Eprint>(rt: &R, answer: &Answer) -> u8 {
-    if answer.text.starts_with(b"digraph ") {
+    if answer.code.is_none() {
         told(rt, answer)
     } else {
         refused(rt, answer)
@@ -92,7 +92,12 @@ fn traced<R: Files + Print + Eprint + AllocGlobal>(
             return false;
         };
         let text = lines.into_bytes();
-        if told(rt, &Answer { text, status: 0 }) != 0 {
+        let steps = Answer {
+            text,
+            status: 0,
+            code: None,
+        };
+        if told(rt, &steps) != 0 {
             return false;
         }
     }

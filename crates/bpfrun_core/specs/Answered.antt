@@ -62,8 +62,8 @@ pub data IsRejected (asked : RunOptions) (need : ℕ) (input code : List ℕ) (w
 -- A program of these bytes that needs so much, on this memory, and what its run leaves of it.
 pub data IsJudged (asked : RunOptions) (need : ℕ) (input code old left : List ℕ) (is_shown : Bool)
     (text : List ℕ) (status : ℕ) : Type 0 where
-  ran : (r0 used : ℕ) → IsProgramRun need code asked.arg asked.credit old r0 used left
-      → Prints text status (ran_text r0 used (shown_memory is_shown left)) 0
+  ran : (r0 used : ℕ) (number : Option ℕ) → IsProgramRun need code asked.arg asked.credit old r0 used left
+      → Prints text status number (ran_text r0 used (shown_memory is_shown left)) 0 None
       → IsJudged asked need input code old left is_shown text status
   rejected : (why : Refusal) → IsStopped need code asked.credit old (fault.Program why) → left ≡ old
       → IsRejected asked need input code why text status

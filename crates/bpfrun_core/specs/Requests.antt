@@ -41,4 +41,6 @@ IsBpfrunUsage (usage.Refused error) words =
 IsBpfrunUsage (usage.Endpoint fault) words = ⊥
 IsBpfrunUsage (usage.Tenant word fault) words = ⊥
 IsBpfrunUsage (usage.Ask fault) words = ⊥
+IsBpfrunUsage (usage.Job fault) words = ⊥
+IsBpfrunUsage usage.TwoInputs words = ⊥
 IsBpfrunUsage usage.NoMemory words = Unit {0}

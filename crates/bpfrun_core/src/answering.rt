@@ -95,9 +95,14 @@ fn explain_faults(
     if list.is_empty() {
         return Ok(None);
     }
+    let number = match list.first() {
+        Some(why) => Some(why.refusal.code()),
+        None => None,
+    };
     Ok(Some(Answer {
         text: text_of(alloc, asked, need, input, code, &list)?,
         status: 1,
+        code: number,
     }))
 }
 

@@ -41,6 +41,7 @@ fn draw_code(
         Ok(picture) => Ok(Answer {
             text: format!(in alloc; "{}", Drawing(&picture))?.into_bytes(),
             status: status_of(&picture),
+            code: None,
         }),
         Err(Refusal::NoMemory) => Err(NoMemory),
         Err(refusal) => answer_refusal(alloc, asked, need, input, code, refusal),

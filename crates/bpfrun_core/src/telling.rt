@@ -1,6 +1,6 @@
 //! What is printed of a run, or of a refusal.
 
-ghost use Rattle.std.specs.Prelude.{◌≡◌, option_map, string_bytes, IfOk};
+ghost use Rattle.std.specs.Prelude.{◌≡◌, option_map, string_bytes, None, IfOk};
 ghost use Rattle.bpfjobs_cli.specs.Printed.{Prints};
 ghost use Rattle.explain.specs.Lines.{numbered_text};
 ghost use Rattle.bpfrun_core.specs.Printed.{AreWordsOf, IsRefusalText, memory_line, quote_text, ran_text};
@@ -34,8 +34,8 @@ pub(crate) fn tell_run(
     memory: Option<&[u8]>,
 ) -> Result<Answer, NoMemory>
     ensures { IfOk result
-        (λ answer. Prints answer.text.items answer.status
-        (ran_text done.r0 done.used (option_map (λ bytes. bytes.now) memory.entry)) 0) }
+        (λ answer. Prints answer.text.items answer.status answer.code
+        (ran_text done.r0 done.used (option_map (λ bytes. bytes.now) memory.entry)) 0 None) }
 {
     let line = memory_line(alloc, memory)?;
     let mut text = format!(in alloc; "r0 {}\nspent {}\n", done.r0, done.used)?;
@@ -43,6 +43,7 @@ pub(crate) fn tell_run(
     Ok(Answer {
         text: text.into_bytes(),
         status: 0,
+        code: None,
     })
 }
 
@@ -152,5 +153,6 @@ pub(crate) fn tell_refusal(
     Ok(Answer {
         text: report_text(alloc, &report)?,
         status: 1,
+        code: Some(fault.code()),
     })
 }

@@ -15,3 +15,4 @@ pub mod Dispatch
 pub mod Stretches
 pub mod Lending
 pub mod Through
+pub mod NoSpawns

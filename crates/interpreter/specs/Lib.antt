@@ -5,3 +5,4 @@ pub mod Representation
 pub mod Stretch
 pub mod Children
 pub mod StepEffectForAll
+pub mod Refusals

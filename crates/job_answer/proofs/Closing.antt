@@ -18,19 +18,17 @@ use Rattle.task_register.specs.declared.seats.RegisterState.{RegisterState}
 use Rattle.task_register.specs.Rule.{EachIs}
 use Rattle.job_answer.specs.Agreement.{shares}
 use Rattle.job_answer.proofs.SoloCredit.{handed_shares, solo_left}
-use Rattle.job_answer.specs.SpawnTree.{TaskRun, finished_run, given_by, taken}
+use Rattle.job_answer.specs.SpawnTree.{NoneRefused, TaskRun, finished_run, given_by, taken}
 use Rattle.job_answer.specs.Gathered.{birth_at_start, handed, TaskRemains, remains_of, left_of, laid, laid_from, RanByItself, IsGathered, GatheredTree, root_start, parents_of}
 use Rattle.job_answer.proofs.Gathering.{gathers}
 use Rattle.job_answer.proofs.Laying.{answers}
 use Rattle.job_answer.proofs.Desking.{desk_once}
+use Rattle.job_answer.proofs.OverLemmas.{one_some}
 use Rattle.job_answer.specs.Closing.{ClosesJob}
-use Rattle.job_answer.specs.OneAnswer.{runs_by, RunsOrNot, AllRan, IsToldAs, HasOneAnswer}
+use Rattle.job_answer.specs.OneAnswer.{runs_by, RunsOrNot, AllRan, IsJobAnswer, IsToldAs, HasOneAnswer}
 
 nothing : {X : Type 0} (i : ℕ) (x : X) → slice_get [] i ≡ Some x → ⊥
 nothing i x e = cc
-
-one_some : {X : Type 0} (o : Option X) (a b : X) → o ≡ Some a → o ≡ Some b → a ≡ b
-one_some o a b x y = cc
 
 all_run : (programs : List Program) (os : List TaskResult) → EachIs (RunsOrNot programs) os → ((k : ℕ) (o : TaskResult) → slice_get os k ≡ Some o → o.ran ≡ true) → All (RanByItself programs) os
 all_run programs [] each ran = All-nil (RanByItself programs)
@@ -91,16 +89,12 @@ mapped_sum (t ∷ ts) =
     ∙ sym (sum_by-cons (λ (f : Finished). f.ending.spent) (finished_run t) (map finished_run ts))
 
 module _ (programs : List Program) (job credit : ℕ) (buffer : List ℕ) (report : Report)
-    (closed : ClosesJob job credit (length buffer) (root_start credit buffer) (RunsOrNot programs) report) (all_ran : AllRan report) where
+    (closed : ClosesJob job credit (length buffer) (root_start credit buffer) (RunsOrNot programs) report)
+    (ran : (k : ℕ) (o : TaskResult) → slice_get closed.known.over k ≡ Some o → o.ran ≡ true) where
   abbrev known : RegisterState
   known = closed.known
 
-  ran : (k : ℕ) (o : TaskResult) → slice_get known.over k ≡ Some o → o.ran ≡ true
-  ran k o there =
-      let e = closed.agrees.table.ended k o there in
-      sym e.ran ∙ all_ran o.own.number e.end (ap (λ (ts : List TaskEnd). slice_get ts o.own.number) closed.report_of.tasks ∙ e.there)
-
-  gathered : IsGathered programs credit buffer known
+  pub gathered : IsGathered programs credit buffer known
   gathered = record {
     all = closed.all;
     root = closed.first;
@@ -108,7 +102,7 @@ module _ (programs : List Program) (job credit : ℕ) (buffer : List ℕ) (repor
     once = desk_once known closed.history closed.agrees closed.complete;
   }
 
-  abbrev family : GatheredTree programs credit buffer known
+  abbrev pub family : GatheredTree programs credit buffer known
   family = gathers programs credit buffer known gathered
 
   -- what a task spent and returned is what it held at its end
@@ -145,6 +139,7 @@ module _ (programs : List Program) (job credit : ℕ) (buffer : List ℕ) (repor
           spent = e.spent ∙ ap (λ (p : TaskRemains). p.spent) piece;
           r0 = e.r0 ∙ ap (λ (p : TaskRemains). p.r0) piece;
           rest = rests n t there o.0 c.0 at o.2 o.3 o.5 e.end e.there;
+          ran = e.ran ∙ ran c.0 o.0 at;
         },
       )
 
@@ -153,8 +148,8 @@ module _ (programs : List Program) (job credit : ℕ) (buffer : List ℕ) (repor
       ap length closed.report_of.tasks ∙ closed.agrees.table.long ∙ first_long known.starts (root_start credit buffer) closed.first
       ∙ ap suc (sym (length-map (drop 1 known.starts) (λ (b : TaskStart). b.parent))) ∙ sym family.family.long
 
-  pub closes : HasOneAnswer programs credit buffer report
-  closes = record {
+  pub closes_where_run : HasOneAnswer programs credit buffer report
+  closes_where_run = record {
     parents = parents_of known;
     tasks = family.tasks;
     family = family.family;
@@ -176,3 +171,16 @@ module _ (programs : List Program) (job credit : ℕ) (buffer : List ℕ) (repor
               ∙ sym (sum_by-IsPermutation (λ (f : Finished). f.ending.spent) (map finished_run family.tasks) a.fs a.all),
         );
   }
+
+  -- it is the one answer, where none was refused a spawn
+  pub whole_where_run : NoneRefused family.tasks → IsJobAnswer programs credit buffer report
+  unfolding closes_where_run
+  whole_where_run none = record { one = closes_where_run; whole = none }
+
+-- each task that is over ran, where each task of the report did
+pub closes : (programs : List Program) (job credit : ℕ) (buffer : List ℕ) (report : Report) →
+    ClosesJob job credit (length buffer) (root_start credit buffer) (RunsOrNot programs) report → AllRan report → HasOneAnswer programs credit buffer report
+closes programs job credit buffer report closed all_ran =
+    closes_where_run programs job credit buffer report closed (λ k o there.
+    let e = closed.agrees.table.ended k o there in
+    sym e.ran ∙ all_ran o.own.number e.end (ap (λ (ts : List TaskEnd). slice_get ts o.own.number) closed.report_of.tasks ∙ e.there))

@@ -13,6 +13,7 @@ use Rattle.std.proofs.lemmas.Bool.Decides.{nat_tests}
 use Rattle.machine_model.specs.Machine.{Program}
 use Rattle.task_trees.specs.Eval.{Finished}
 use Rattle.task_trees.specs.Families.{children_of}
+use Rattle.virtual_machine.specs.Through.{none_refused}
 use Rattle.std.proofs.lemmas.List.Sorted.{IsPermutation-map}
 use Rattle.std.proofs.lemmas.Simd.{map-map}
 use Rattle.task_register.specs.declared.seats.TaskStart.{TaskStart}
@@ -372,18 +373,20 @@ module _ (programs : List Program) (credit : ℕ) (buffer : List ℕ) (known : R
   pub each_told : (n : ℕ) (t : TaskRun) → slice_get tasks n ≡ Some t → (o : TaskResult)
       × Contains known.over o × (o.own.number ≡ n) × (birth_at_start o.own.birth ≡ t.birth)
       × (remains_of o ≡ left_of (finished_run t)) × (o.own.children ≡ map (handed n o.own.birth.base) (taken t.asked))
+      × (o.whole ≡ none_refused t.asked)
   unfolding rans
   each_told n t there =
       let is = task_is n t there in
       let one = one_each n is.0 in
       subst (λ (x : TaskRun). (o : TaskResult) × Contains known.over o × (o.own.number ≡ n) × (birth_at_start o.own.birth ≡ x.birth) × (remains_of o ≡ left_of (finished_run x))
-      × (o.own.children ≡ map (handed n o.own.birth.base) (taken x.asked))) is.1 (
+      × (o.own.children ≡ map (handed n o.own.birth.base) (taken x.asked)) × (o.whole ≡ none_refused x.asked)) is.1 (
         (ran_at n).over,
         among_all known.over all_run all_tasks n one some_ran,
         keyed n is.0,
         refl,
         sym (left_is (ran_at n)),
         (ran_at n).is_run.children ∙ ap (λ k. map (handed k (ran_at n).over.own.birth.base) (taken (ran_at n).is_run.asked)) (keyed n is.0),
+        (ran_at n).is_run.told,
       )
 
 pub gathers : (programs : List Program) (credit : ℕ) (buffer : List ℕ) (known : RegisterState) → IsGathered programs credit buffer known → GatheredTree programs credit buffer known

@@ -9,3 +9,5 @@ pub mod Balancing
 pub mod SoloCredit
 pub mod Desking
 pub mod Closing
+pub mod OverLemmas
+pub mod OneAnswers

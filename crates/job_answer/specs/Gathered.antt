@@ -8,6 +8,7 @@ use Rattle.std.specs.List.Sorted.{IsPermutation}
 use Rattle.machine_model.specs.Machine.{State, Program, Birth}
 use Rattle.machine_model.specs.JobState.{entries_of}
 use Rattle.task_trees.specs.Solo.{SpawnRequest, IsGiven, Solo, entering}
+use Rattle.virtual_machine.specs.Through.{none_refused}
 use Rattle.task_register.specs.declared.seats.TaskStart.{TaskStart}
 use Rattle.task_register.specs.declared.seats.TaskResult.{TaskResult}
 use Rattle.task_register.specs.declared.seats.RegisterState.{RegisterState}
@@ -30,7 +31,8 @@ handed number base a = record {
 }
 
 -- The task ran so, by itself, on what it was started with, which suffices for its program. Its
--- children are what it handed over, and it left its bytes where they were.
+-- children are what it handed over, and it left its bytes where they were. It is told as whole
+-- exactly where none of its spawns was refused.
 pub record RanByItself (programs : List Program) (o : TaskResult) : Type 0 where
   pub program : Program
   pub there : slice_get programs o.own.birth.program ≡ Some program
@@ -43,6 +45,7 @@ pub record RanByItself (programs : List Program) (o : TaskResult) : Type 0 where
   pub bytes : o.bytes ≡ last.part
   pub base : o.base ≡ o.own.birth.base
   pub children : o.own.children ≡ map (handed o.own.number o.own.birth.base) (taken asked)
+  pub told : o.whole ≡ none_refused asked
 
 abbrev pub root_start : ℕ → List ℕ → TaskStart
 root_start credit buffer = record {
@@ -101,6 +104,7 @@ pub record GatheredTree (programs : List Program) (credit : ℕ) (buffer : List 
       × Contains known.over o × (o.own.number ≡ n) × (birth_at_start o.own.birth ≡ t.birth)
       × (remains_of o ≡ left_of (finished_run t))
       × (o.own.children ≡ map (handed n o.own.birth.base) (taken t.asked))
+      × (o.whole ≡ none_refused t.asked)
 
 -- so much memory, with what each of these tasks left written in its turn
 abbrev pub laid : List ℕ → List Finished → List ℕ

@@ -13,7 +13,7 @@ ghost use Rattle.machine_model.specs.Machine.{Entries, Program, State};
 ghost use Rattle.task_register.specs.declared.seats.RegisterState.{RegisterState};
 ghost use Rattle.job_answer.specs.Gathered.{IsGathered, GatheredTree, GivesAnswer, numbers_to, root_start};
 ghost use Rattle.job_answer.specs.Closing.{ClosesJob};
-ghost use Rattle.job_answer.specs.OneAnswer.{AllRan, HasOneAnswer, IsPaidFor, RunsOrNot};
+ghost use Rattle.job_answer.specs.OneAnswer.{AllRan, HasOneAnswer, IsJobAnswer, IsPaidFor, IsWholeRun, RunsOrNot, TellsAnswer, row_of_end};
 ghost use Rattle.credit_book.specs.declared.book.Report.{Report as ReportOf};
 ghost use Rattle.task_trees.specs.Solo.{Solo, SpawnRequest};
 ghost use Rattle.virtual_machine.specs.Through.{GoesThrough};
@@ -101,4 +101,27 @@ pub fn closes_to_answer()
     ensures { (programs : List Program) (job credit : ℕ) (buffer : List ℕ) (report : ReportOf) →
         ClosesJob job credit (length buffer) (root_start credit buffer) (RunsOrNot programs) report
         → AllRan report → HasOneAnswer programs credit buffer report }
+{}
+
+/// What a job closes to is its one answer, where each task is whole.
+pub fn closes_to_whole_answer()
+    ensures { (programs : List Program) (job credit : ℕ) (buffer : List ℕ) (report : ReportOf) →
+        ClosesJob job credit (length buffer) (root_start credit buffer)
+        (λ (o : TaskResult). RunsOrNot programs o × IsWholeRun o) report
+        → IsJobAnswer programs credit buffer report }
+{}
+
+/// A job has one answer: what its root comes to. So two answers of it have one buffer, one sum and
+/// the same tasks, each once, and whatever gives what the root comes to gives this answer.
+pub fn answers_are_one()
+    ensures comes { (programs : List Program) (credit : ℕ) (buffer : List ℕ) (report : ReportOf) →
+        IsJobAnswer programs credit buffer report → (fs : List Finished)
+        × RootComes programs credit buffer fs × TellsAnswer (length buffer) report fs }
+    ensures is { (programs : List Program) (credit : ℕ) (buffer : List ℕ) (report : ReportOf)
+        (fs : List Finished) → IsJobAnswer programs credit buffer report
+        → RootComes programs credit buffer fs → TellsAnswer (length buffer) report fs }
+    ensures same { (programs : List Program) (credit : ℕ) (buffer : List ℕ) (a b : ReportOf) →
+        IsJobAnswer programs credit buffer a → IsJobAnswer programs credit buffer b →
+        (a.buffer.items ≡ b.buffer.items) × (a.spent ≡ b.spent)
+        × IsPermutation (map row_of_end a.tasks.items) (map row_of_end b.tasks.items) }
 {}

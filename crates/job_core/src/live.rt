@@ -3,7 +3,7 @@
 ghost use Rattle.std.specs.Prelude.{◌≡◌, ℕ, ◌≤◌, ◌<◌, ◌^◌, length, IfOk};
 ghost use Rattle.helpers.specs.Piece.{Piece};
 ghost use Rattle.interpreter.specs.Representation.{IsCovered, entry_frame, at_slot, out_of, slot_after, zeroed};
-ghost use Rattle.interpreter.specs.StepEffectForAll.{StepEffectForAll};
+ghost use Rattle.interpreter.specs.StepEffectForAll.{StepEffectForAll, StepEffectAndRefusalForAll};
 ghost use Rattle.interpreter.specs.Stretch as stretch;
 ghost use Rattle.interpreter.specs.Children.{MayHandOver};
 ghost use Rattle.job_core.specs.Living.{Living};
@@ -161,6 +161,13 @@ impl Live {
             (at_slot self.old.frame slot) self.old.part (λ frame part credit.
             StepEffectForAll code.now (S.entries spawner.old) frame part credit
             (out_of result.next) (at_slot self.new.frame (slot_after frame.slot result.next))
+            self.new.part self.new.credit (spawner.new ≡ spawner.old)
+            (λ child reply. S.spawns spawner.old child reply spawner.new)
+            (λ helper arguments answer. S.calls spawner.old helper arguments answer spawner.new)) }
+        ensures told { stretch.Ran code.now self.old.credit limit result.count
+            (at_slot self.old.frame slot) self.old.part (λ frame part credit.
+            StepEffectAndRefusalForAll result.refused code.now (S.entries spawner.old) frame part
+            credit (out_of result.next) (at_slot self.new.frame (slot_after frame.slot result.next))
             self.new.part self.new.credit (spawner.new ≡ spawner.old)
             (λ child reply. S.spawns spawner.old child reply spawner.new)
             (λ helper arguments answer. S.calls spawner.old helper arguments answer spawner.new)) }

@@ -148,7 +148,7 @@ tells_job k b b' n told old new watched was look here others count =
 -- a job fewer, with what it came to
 pub gives_job : (k k' : List StartedJob) (b b' : BTreeMap ℕ Sight) (n : ℕ) (seat : StartedJob) (end : Result Report ℕ) (sight : Sight) → k' ≡ k → seat.number ≡ n → started_at seat.number k ≡ Some seat.job
     → tree.get nat_cmp b n ≡ Some sight → IsEndOf n seat.job end → tree.get nat_cmp b' n ≡ None → SameBut (tree.get nat_cmp b) n (tree.get nat_cmp b') → btree_map_len b' + 1 ≡ btree_map_len b
-    → GivesBy pooled_at pooled_count (k, b) n end (k', b')
+    → GivesBy pooled_at pooled_count IsEndOf (k, b) n end (k', b')
 gives_job k k' b b' n seat end sight same number found here is_end gone others count = record {
   held = record { number = n; job = seat.job; sight = sight };
   was = held_some (started_at n k) n (tree.get nat_cmp b n) seat.job sight (ap (λ (m : ℕ). started_at m k) (sym number) ∙ found) here;

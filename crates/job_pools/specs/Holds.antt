@@ -8,7 +8,7 @@ use Rattle.credit_book.specs.declared.book.Report.{Report}
 use Rattle.job_core.specs.Admitted.{AdmittedJob}
 use Rattle.credit_book.specs.declared.board.Progress.{Progress}
 use Rattle.job_pools.specs.declared.held_jobs.HeldJobs.{HeldJobs}
-use Rattle.job_pools.specs.Endings.{IsEndOf}
+use Rattle.job_pools.specs.Endings.{IsEndOf, IsReportedEnd}
 use Rattle.job_pools.specs.Holding.{HeldJob, IsFresh, IsSeen, job_by}
 
 -- by what is held under a number, and by how many are held
@@ -52,17 +52,23 @@ module _ {P : Type 0} (held_by : P → ℕ → Option HeldJob) (count_by : P →
   abbrev pub TellsBy : P → ℕ → Progress → P → Type 0
   TellsBy old number told new = looks_by old number (held_by old number) told new
 
-  -- one job fewer, with what it came to
-  pub record GivesBy (old : P) (number : ℕ) (outcome : Result Report ℕ) (new : P) : Type 0 where
+  -- one job fewer, with what it came to: an end of it
+  pub record GivesBy (ends : ℕ → AdmittedJob → Result Report ℕ → Type 0) (old : P) (number : ℕ)
+      (outcome : Result Report ℕ) (new : P) : Type 0 where
     pub held : HeldJob
     pub was : held_by old number ≡ Some held
-    pub end : IsEndOf number held.job outcome
+    pub end : ends number held.job outcome
     pub changes : ChangesBy old number None new
     pub count : count_by new + 1 ≡ count_by old
 
+  abbrev pub TakesEndBy : (ℕ → AdmittedJob → Result Report ℕ → Type 0) → P
+      → Option (ℕ × Result Report ℕ) → P → Type 0
+  TakesEndBy ends old (Some taken) new = GivesBy ends old taken.0 taken.1 new
+  TakesEndBy ends old None new = IsUnchangedBy old new
+
+  -- its one answer, or 99
   abbrev pub TakesBy : P → Option (ℕ × Result Report ℕ) → P → Type 0
-  TakesBy old (Some taken) new = GivesBy old taken.0 taken.1 new
-  TakesBy old None new = IsUnchangedBy old new
+  TakesBy old taken new = TakesEndBy IsEndOf old taken new
 
 -- ---- jobs in places of their own
 
@@ -84,4 +90,4 @@ abbrev pub TellsProgress : HeldJobs → ℕ → Progress → HeldJobs → Type 0
 TellsProgress old number told new = TellsBy held_at count_of old number told new
 
 abbrev pub TakesReport : HeldJobs → Option (ℕ × Result Report ℕ) → HeldJobs → Type 0
-TakesReport old taken new = TakesBy held_at count_of old taken new
+TakesReport old taken new = TakesEndBy held_at count_of IsReportedEnd old taken new

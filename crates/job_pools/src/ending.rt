@@ -14,9 +14,9 @@ pub struct EndOf {
 }
 
 impl Promise<Result<Report, u8>> for EndOf {
-    ghost use Rattle.job_pools.specs.Endings.{IsEndOf};
+    ghost use Rattle.job_pools.specs.Endings.{IsReportedEnd};
 
-    ghost kept_by = { λ promise end. IsEndOf promise.number promise.job.value end };
+    ghost kept_by = { λ promise end. IsReportedEnd promise.number promise.job.value end };
 }
 
 /// A job's thread, which has promised the job's end.

@@ -1,7 +1,7 @@
 //! A job that waits for its thread, and what it does there.
 
 ghost use Rattle.std.specs.Prelude.{◌≡◌, ◌≤◌};
-ghost use Rattle.job_pools.specs.Endings.{IsEndOf};
+ghost use Rattle.job_pools.specs.Endings.{IsReportedEnd};
 
 use credit_book::{Post, Report};
 use job_core::Job;
@@ -27,7 +27,7 @@ impl JobRequest {
     /// came to.
     pub(crate) fn run<R: Threads + Wait + Sync>(self, rt: &R, workers: u32) -> Result<Report, u8>
         requires { (1 ≤ workers) × (workers ≤ 16) }
-        ensures { IsEndOf self.number self.job result }
+        ensures { IsReportedEnd self.number self.job result }
     {
         let JobRequest {
             alloc,

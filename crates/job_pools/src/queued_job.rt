@@ -17,7 +17,7 @@ use std::marker::Model;
 use std::sync::Wait;
 use std::thread::Threads;
 use std::time::Instant;
-use workers::{OpenGate, run_here, run_job};
+use workers::{OpenGate, run_whole};
 
 /// The most credit of a job that one worker runs by itself.
 const SMALL: u32 = 1_000_000;
@@ -107,7 +107,7 @@ impl<J: RegisterId> EndedJob<J> {
     }
 }
 
-// What the job comes to, by the calling thread alone, or on so many workers.
+// What the job comes to, on so many workers, or on the calling thread alone where it is small.
 fn end_of<R: Threads + Wait + Sync>(
     rt: &R,
     alloc: Global,
@@ -119,14 +119,10 @@ fn end_of<R: Threads + Wait + Sync>(
     requires post { post.board.issued ≡ job.credit }
     ensures { IsEndOf post.board.job job result }
 {
-    let ended = if workers == 1 || job.credit() <= SMALL {
-        run_here(rt, alloc, job, post, &OpenGate)
-    } else {
-        run_job(rt, alloc, job, post, workers, &OpenGate)
-    };
-    match ended {
+    let workers = if job.credit() <= SMALL { 1 } else { workers };
+    match run_whole(rt, alloc, job, post, workers, &OpenGate) {
         Ok(report) => Ok(report),
-        Err(fault) => Err(fault.code()),
+        Err(why) => Err(why.code()),
     }
 }
 

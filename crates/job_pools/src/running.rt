@@ -1,7 +1,7 @@
 //! One job and its thread.
 
 ghost use Rattle.std.specs.Prelude.{◌≡◌, ◌⊎◌, IfOk, IfErr};
-ghost use Rattle.job_pools.specs.Endings.{IsEndOf};
+ghost use Rattle.job_pools.specs.Endings.{IsReportedEnd};
 ghost use Rattle.job_pools.specs.Holding.{IsFresh, IsSeen};
 ghost use Rattle.job_pools.specs.Starting.{StartsOwn};
 
@@ -97,7 +97,7 @@ impl RunningJob {
 
     /// Waits for the job's thread. What the job came to.
     pub fn join<R: Threads>(self, rt: &R) -> Result<Report, u8>
-        ensures { IsEndOf self.number self.job result }
+        ensures { IsReportedEnd self.number self.job result }
     {
         let RunningJob { thread, .. } = self;
         thread.join(rt)

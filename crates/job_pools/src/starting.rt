@@ -1,7 +1,7 @@
 //! The thread of a job.
 
 ghost use Rattle.std.specs.Prelude.{◌≡◌, ◌≤◌, IfSome};
-ghost use Rattle.job_pools.specs.Endings.{IsEndOf};
+ghost use Rattle.job_pools.specs.Endings.{IsReportedEnd};
 ghost use Rattle.job_pools.specs.Starting.{IsStarted};
 
 use crate::ending::{EndOf, JobThread};
@@ -28,7 +28,7 @@ pub fn start_thread<R: Threads + Wait + Copy + Send + Sync + 'static>(
     };
     let work = move || -> Result<Report, u8>
         requires { (1 ≤ workers) × (workers ≤ 16) }
-        ensures { IsEndOf request.number request.job result }
+        ensures { IsReportedEnd request.number request.job result }
     { request.run(&rt, workers) };
     thread::spawn_with(&rt, promise, work).ok()
 }

@@ -20,7 +20,7 @@ use Rattle.streams.specs.Answering.{Replies, Grants, GrantsNone, Settles, Submit
 use Rattle.shared_desk.specs.Histories.{HistoryEntry, Query, Replays, none_yet as nothing_replayed, one_more as one_replayed}
 use Rattle.job_pools.specs.Endings.{IsEndOf}
 use Rattle.job_server.specs.AfterRestart.{KnownJob, Itself, Over, AreKnown, none_yet, one_more, no_more, IsResultKnown, reported, failed, was_over, not_over, forgotten, unknown, known_at, over_standing, outcome_told, IsToldKnown}
-use Rattle.job_server.specs.EndToEnd.{IsSubmit, TakesNoJob, AsksForJob, FailsBy, HasReply}
+use Rattle.job_server.specs.EndToEnd.{IsSubmit, TakesNoJob, AsksForJob, HasReply}
 use Rattle.job_server.proofs.ListEnds.{length_pushed, get_within, get_past, within_get}
 use Rattle.job_server.proofs.ReplyFrames.{is_framed}
 use Rattle.job_server.proofs.HostAnswers.{AnswersOnce, IsHost}
@@ -158,10 +158,6 @@ module _ {R : Type 0} (starts : R → ℕ → AdmittedJob → Result (Unit {0}) 
           (stand_taken keep jobs d.jobs (held r) b (Itself t.job) t.takes.entry stand
           (subst (StandsFor (b (length jobs + 1)) keep (length jobs + 1) (length jobs + 1) (Itself t.job) t.takes.entry.credit) (sym t.takes.opened) (here, credited)) others)
 
-      by_code : (code : ℕ) → (code ≡ 81) ⊎ (code ≡ 99) → (job : AdmittedJob) → FailsBy (length t.mid.jobs) job code
-      by_code code (inl is) job = inl is
-      by_code code (inr is) job = inr (inl is)
-
       by_outcome : (o : Result (Unit {0}) ℕ) → starts r (length t.mid.jobs) t.job o s → Settles t.mid (length t.mid.jobs) o a → AllStand keep (jobs ++ Itself t.job ∷ []) a.jobs (held s)
       by_outcome (Ok done) started settles =
           let step = holds.started r (length t.mid.jobs) t.job done s started in
@@ -173,7 +169,7 @@ module _ {R : Type 0} (starts : R → ℕ → AdmittedJob → Result (Unit {0}) 
           stand_finished keep (jobs ++ Itself t.job ∷ []) t.mid as_held (held s) (length t.mid.jobs) (Err code) a
           (taken_with as_held (held_here (length jobs + 1) number) (λ m apart. held_other m (λ same. apart (same ∙ number))))
           (λ m apart. step.1 m ∙ sym (held_other m apart))
-          (λ job is. by_code code step.0 job) settles
+          (λ job is. step.0) settles
 
   after_replies : (keep : KeepLimits) (first : List KnownJob) (history : List HistoryEntry) (d : Ledger) (r : R) (e : HistoryEntry) (a : Ledger) (s : R) → (jobs : List KnownJob) → AreKnown first history jobs → AllStand keep jobs d.jobs (held r)
       → (query : Result Asked ℕ) (told : Data) → e.query.asked ≡ query → HasReply e told → Replies starts looks d r query told a s → Stands keep first (history ++ e ∷ []) a s

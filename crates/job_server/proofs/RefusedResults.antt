@@ -7,9 +7,6 @@ use Rattle.std.proofs.lemmas.Fmt.{decimal_injective, length-decimal-le}
 use Rattle.serde_json.proofs.OnLiterals.{serde_json_on_literals}
 use Rattle.serde_json.specs.Data.{Data}
 use Rattle.serde_json.specs.Written.{compact_text}
-use Rattle.workers.specs.declared.fault.PoolFault.{PoolFault}
-use Rattle.workers.specs.declared.fault.PoolFault.TheVariants.{NoWorker}
-use Rattle.workers.specs.PoolFaultCodes.{code_of_pool_fault}
 use Rattle.job_core.specs.Admitted.{AdmittedJob}
 use Rattle.sessions.specs.Frames.{framed}
 use Rattle.sessions.specs.Replies.{refusal_data, frame_or_refusal, longest_reply}
@@ -45,14 +42,9 @@ same_code m n small_m small_n same = same_frame m n small_m small_n (sym (refuse
 
 -- ---- the numbers are small
 
-pool_code : (fault : PoolFault) → code_of_pool_fault fault < 2 ^ 64
-pool_code NoWorker = omega arith
-pool_code other = omega arith
-
-fails_small : (number : ℕ) (job : AdmittedJob) (code : ℕ) → FailsBy number job code → code < 2 ^ 64
-fails_small number job code (inl is) = omega (arith, is)
-fails_small number job code (inr (inl is)) = omega (arith, is)
-fails_small number job code (inr (inr ends)) = let small = pool_code ends.0 in let is = ends.1 in omega (arith, small, is)
+fails_small : (code : ℕ) → FailsBy code → code < 2 ^ 64
+fails_small code (inl is) = omega (arith, is)
+fails_small code (inr is) = omega (arith, is)
 
 -- ---- the refusal is one of those that a result may be
 
@@ -68,7 +60,7 @@ module _ (keep : KeepLimits) (jobs : List AdmittedJob) (number code : ℕ) (smal
       same
 
   by_result : (told : Data) → IsResultOf keep jobs number told → frame_or_refusal told ≡ frame_or_refusal (refused code) → IsResultOf keep jobs number (refused code) ⊎ (code ≡ 65)
-  by_result _ (failed job c at fails) same = as_told c (fails_small number job c fails) (failed job c at fails) same
+  by_result _ (failed job c at fails) same = as_told c (fails_small c fails) (failed job c at fails) same
   by_result _ (not_over job at) same = as_told 77 (omega arith) (not_over job at) same
   by_result _ (forgotten job at may) same = as_told 76 (omega arith) (forgotten job at may) same
   by_result _ (unknown at) same = as_told 76 (omega arith) (unknown at) same

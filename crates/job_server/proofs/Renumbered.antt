@@ -26,5 +26,5 @@ final_again a b issued size report f =
     }
 
 pub end_again : (a b : ℕ) (job : AdmittedJob) (outcome : Result Report ℕ) → IsEndOf a job outcome → IsEndOf b job outcome
-end_again a b job (Ok report) run = record { final = final_again a b job.credit _ report run.final; alone = run.alone; answer = run.answer }
+end_again a b job (Ok report) run = record { final = final_again a b job.credit _ report run.final; answer = run.answer }
 end_again a b job (Err code) fault = fault

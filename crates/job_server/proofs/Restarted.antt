@@ -17,7 +17,6 @@ use Rattle.desk_journal.specs.declared.journaled_desk.OpenJob.{OpenJob}
 use Rattle.desk_journal.proofs.OpenLemmas.{AreApart, AreHeldOpen, at_middle, none_ahead, pushed_at}
 use Rattle.desk_recorder.specs.Restarts.{NotesStart, StartsEach, none_yet, one_more}
 use Rattle.job_server.specs.AfterRestart.{AreRecovered, IsRecoveredAs, Itself, KnownJob, Over}
-use Rattle.job_server.specs.EndToEnd.{FailsBy}
 use Rattle.job_server.proofs.HistoryStands.{HoldsJobs}
 use Rattle.job_server.proofs.StandsFor.{AllStand, StandsFor, all_stand, stand_noted}
 
@@ -115,11 +114,7 @@ module _ (changes : List (List ℕ)) (state : DeskState) (sound : AreHeldOpen ch
             by_number here same n (inr apart) = others r s n apart (same n apart)
         after_start d r (Err code) s e stand step noted =
             let refused = holds.refused r job.number job.job code s step in
-            stand_noted keep first d (by_jobs jobs r) (by_jobs (jobs ++ job ∷ []) s) job.number (Err code) e stand (λ n apart. others r s n apart (refused.1 n)) (λ j at. by_code j refused.0) noted
-          where
-            by_code : (j : AdmittedJob) → (code ≡ 81) ⊎ (code ≡ 99) → FailsBy job.number j code
-            by_code j (inl same) = inl same
-            by_code j (inr same) = inr (inl same)
+            stand_noted keep first d (by_jobs jobs r) (by_jobs (jobs ++ job ∷ []) s) job.number (Err code) e stand (λ n apart. others r s n apart (refused.1 n)) (λ j at. refused.0) noted
 
       after_starts : (desk : Ledger) (runner : R) (jobs rest : List OpenJob) → state.held ≡ jobs ++ rest → (d : Ledger) (r : R) → AllStand keep first desk.jobs to_start → StartsEach starts desk runner jobs d r
           → AllStand keep first d.jobs (by_jobs jobs r)

@@ -27,7 +27,7 @@ abbrev pub StandsFor : Option AdmittedJob → KeepLimits → ℕ → ℕ → Kno
 StandsFor held keep count number (Itself job) credit Open = (held ≡ Some job) × (credit ≡ job.credit)
 StandsFor held keep count number (Itself job) credit (Reported report) = IsRun number job report
 StandsFor held keep count number (Itself job) credit (Failed code) =
-    FailsBy number job code ⊎ ((code ≡ 76) × MayBeForgotten keep number count)
+    FailsBy code ⊎ ((code ≡ 76) × MayBeForgotten keep number count)
 StandsFor held keep count number (Over outcome) credit standing =
     (standing ≡ over_standing outcome) ⊎ ((standing ≡ Failed 76) × MayBeForgotten keep number count)
 
@@ -96,11 +96,11 @@ job_there entries (suc n) entry at = (omega arith, sym (job_is entries (suc n) (
 -- the job came to a report of its run, or failed, already at its start maybe
 abbrev pub Ended : ℕ → AdmittedJob → Result Report ℕ → Type 0
 Ended number job (Ok report) = IsRun number job report
-Ended number job (Err code) = FailsBy number job code
+Ended number job (Err code) = FailsBy code
 
 pub ended_by : (number : ℕ) (job : AdmittedJob) (outcome : Result Report ℕ) → IsEndOf number job outcome → Ended number job outcome
 ended_by number job (Ok report) ends = ends
-ended_by number job (Err code) ends = inr (inr ends)
+ended_by number job (Err code) ends = inr ends
 
 -- what is over isn't open
 pub over_open : (outcome : Result Report ℕ) → Open ≡ over_standing outcome → ⊥

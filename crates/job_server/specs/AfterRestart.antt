@@ -75,7 +75,7 @@ pub data IsResultKnown (keep : KeepLimits) (known : List KnownJob) (number : ℕ
   reported : (job : AdmittedJob) (report : Report) → known_at known number ≡ Some (Itself job)
       → IsRun number job report → IsResultKnown keep known number (report_data report)
   failed : (job : AdmittedJob) (code : ℕ) → known_at known number ≡ Some (Itself job)
-      → FailsBy number job code → IsResultKnown keep known number (refused code)
+      → FailsBy code → IsResultKnown keep known number (refused code)
   was_over : (outcome : Result Report ℕ) → known_at known number ≡ Some (Over outcome)
       → IsResultKnown keep known number (outcome_told outcome)
   not_over : (job : AdmittedJob) → known_at known number ≡ Some (Itself job)

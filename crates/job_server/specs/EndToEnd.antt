@@ -14,7 +14,7 @@ use Rattle.sessions.specs.Grammar.{Asked, submit, result, program_asked}
 use Rattle.sessions.specs.Replies.{submit_data, result_data, frame_or_refusal}
 use Rattle.streams.specs.Answering.{refused, submit_refused}
 use Rattle.shared_desk.specs.Histories.{HistoryEntry, Replays, by_any_passage}
-use Rattle.job_pools.specs.Endings.{IsRun, IsEndOf}
+use Rattle.job_pools.specs.Endings.{IsRun}
 use Rattle.job_server.specs.declared.bounds.Bounds.{Bounds}
 use Rattle.job_server.specs.AtOnce.{Pool, Hosted, hosted_answers, new_host}
 
@@ -85,9 +85,9 @@ AsksForResult number query = query ≡ Ok (result number)
 abbrev pub report_data : Report → Data
 report_data r = result_data r.buffer.items r.returned r.spent r.tasks.items
 
--- the job's start was refused by 81 or 99, or its run ended by the code
-abbrev pub FailsBy : ℕ → AdmittedJob → ℕ → Type 0
-FailsBy number job code = (code ≡ 81) ⊎ (code ≡ 99) ⊎ IsEndOf number job (Err code)
+-- the job's start was refused by 81 or 99, or there was no memory for its answer: 99
+abbrev pub FailsBy : ℕ → Type 0
+FailsBy code = (code ≡ 81) ⊎ (code ≡ 99)
 
 -- Of so many jobs the one of this number may be forgotten: it is ahead of the last ones that are
 -- kept, or what reports hold is bounded.
@@ -102,7 +102,7 @@ pub data IsResultOf (keep : KeepLimits) (jobs : List AdmittedJob) (number : ℕ)
   reported : (job : AdmittedJob) (report : Report) → taken_at jobs number ≡ Some job
       → IsRun number job report → IsResultOf keep jobs number (report_data report)
   failed : (job : AdmittedJob) (code : ℕ) → taken_at jobs number ≡ Some job
-      → FailsBy number job code → IsResultOf keep jobs number (refused code)
+      → FailsBy code → IsResultOf keep jobs number (refused code)
   not_over : (job : AdmittedJob) → taken_at jobs number ≡ Some job
       → IsResultOf keep jobs number (refused 77)
   forgotten : (job : AdmittedJob) → taken_at jobs number ≡ Some job

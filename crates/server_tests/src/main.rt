@@ -54,11 +54,11 @@ use std::sync::Wait;
 use std::thread::Threads;
 use stop::ScenarioFault;
 
-const NAMES: [&str; 31] = [
-    "played", "stepped", "heard", "replied", "desk", "stream", "frames", "workers", "runner",
-    "given", "reads", "writes", "drips", "fills", "empties", "texts", "taps", "verdicts", "jobs",
-    "chosen", "passed", "order", "own", "halves", "passes", "lanes", "left", "answers", "meetings",
-    "looks", "faults",
+const NAMES: [&str; 32] = [
+    "played", "stepped", "heard", "replied", "desk", "stream", "frames", "workers", "whole",
+    "runner", "given", "reads", "writes", "drips", "fills", "empties", "texts", "taps", "verdicts",
+    "jobs", "chosen", "passed", "order", "own", "halves", "passes", "lanes", "left", "answers",
+    "meetings", "looks", "faults",
 ];
 
 /// One turn of a scenario in which memory may be refused.
@@ -75,6 +75,7 @@ where
         "stream" => desks::served(alloc),
         "frames" => arenas::placed(alloc),
         "workers" => pools::run_by_two(&rt, alloc),
+        "whole" => pools::run_whole_by_two(&rt, alloc),
         "runner" => pools::run_by_runner(rt, alloc),
         "given" => giving_back::given_back(alloc),
         _ => by_itself(rt, alloc, name),

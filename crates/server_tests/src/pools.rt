@@ -1,16 +1,18 @@
 //! The job on two workers, in this thread and in threads of its own.
 
+ghost use Rattle.std.specs.Prelude.{◌≡◌, ◌≤◌, IfOk};
+
 use crate::asking::{asked, awaited, start};
 use crate::stop::{ScenarioFault, holds};
-use crate::tree::{CREDIT, job, told as told_of};
-use credit_book::{Board, Report};
+use crate::tree::{CREDIT, job, numbers, told as told_of};
+use credit_book::{Board, Reader, Report};
 use job_core::Job;
 use job_pools::{JobRequest, JobThread, PoolRunner, start_thread};
 use std::alloc::Global;
 use std::sync::Wait;
 use std::thread::Threads;
 use streams::Runner;
-use workers::{OpenGate, PoolFault, run_job};
+use workers::{OpenGate, PoolFault, run_job, run_whole};
 
 const WORKERS: u32 = 2;
 
@@ -38,27 +40,62 @@ fn told_by_pool(alloc: Global, report: &Report) -> Result<Vec<u64>, ScenarioFaul
     }
 }
 
+/// The job's credit, which a board takes.
+fn credit_of(job: &Job) -> Result<u32, ScenarioFault>
+    ensures { IfOk result (λ credit. (credit ≡ job.now.credit) × (1 ≤ credit)
+        × (credit ≤ 2147483647)) }
+{
+    let credit = job.credit();
+    if credit < 1 || credit > 2_147_483_647 {
+        return Err(ScenarioFault::Differs("the job has another credit"));
+    }
+    Ok(credit)
+}
+
+/// The board says what the report does.
+fn agrees(board: &Board, reader: &mut Reader, report: &Report) -> Result<(), ScenarioFault>
+    requires { reader.old.board ≡ board.now }
+{
+    let seen = board.look(reader);
+    let same = seen.complete && (seen.spent, seen.returned) == (report.spent, report.returned);
+    holds(same, "the board doesn't say what the report does")
+}
+
 /// The job on two workers, under a board that is looked at when it is over.
 pub fn run_by_two<R: Threads + Wait + Sync>(
     rt: &R,
     alloc: Global,
 ) -> Result<Vec<u64>, ScenarioFault> {
     let job = job(alloc)?;
-    let credit = job.credit();
-    if credit < 1 || credit > 2_147_483_647 {
-        return Err(ScenarioFault::Differs("the job has another credit"));
-    }
-    let (board, post, mut reader) = Board::open(alloc, 1, credit)?;
+    let (board, post, mut reader) = Board::open(alloc, 1, credit_of(&job)?)?;
     match run_job(rt, alloc, job, post, WORKERS, &OpenGate) {
         Ok(report) => {
-            let seen = board.look(&mut reader);
-            let same = seen.complete
-                && (seen.spent, seen.returned) == (report.spent, report.returned);
-            holds(same, "the board doesn't say what the report does")?;
+            agrees(&board, &mut reader, &report)?;
             told_by_pool(alloc, &report)
         }
         Err(PoolFault::NoMemory) | Err(PoolFault::NoWorker) => Err(ScenarioFault::Refused),
         Err(PoolFault::BookRefused) => Err(ScenarioFault::Differs("the book refused an end")),
+    }
+}
+
+/// The job's one answer by two workers, of which this thread is one. It has the child, whatever was
+/// refused.
+pub fn run_whole_by_two<R: Threads + Wait + Sync>(
+    rt: &R,
+    alloc: Global,
+) -> Result<Vec<u64>, ScenarioFault> {
+    let job = job(alloc)?;
+    let (board, post, mut reader) = Board::open(alloc, 1, credit_of(&job)?)?;
+    match run_whole(rt, alloc, job, post, WORKERS, &OpenGate) {
+        Ok(report) => {
+            agrees(&board, &mut reader, &report)?;
+            holds(
+                report.tasks.len() == 2,
+                "a refused spawn stands in an answer",
+            )?;
+            numbers(alloc, &report)
+        }
+        Err(_) => Err(ScenarioFault::Refused),
     }
 }
 

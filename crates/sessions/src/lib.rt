@@ -31,10 +31,12 @@ pub use tenant_key::TenantKey;
 mod job_list;
 mod reply;
 mod result;
+mod result_reader;
 mod server_reply;
 mod server_totals;
 
 pub use reply::{Reply, reply_frame, reply_text};
+pub use result_reader::{ResultObject, ResultTask, result_object};
 pub use server_totals::{ConnectionTotals, JobTotals, RefusalCount, ServerTotals};
 
 // the accounts that requests speak of

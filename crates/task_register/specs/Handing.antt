@@ -1,5 +1,5 @@
 -- A ticket and the seat of its task.
-use Rattle.std.specs.Prelude.{◌≡◌, ℕ, []}
+use Rattle.std.specs.Prelude.{◌≡◌, ℕ, Bool, []}
 use Rattle.credit_book.specs.declared.task.Outcome.{Outcome}
 use Rattle.task_register.specs.declared.seats.TaskStart.{TaskStart}
 use Rattle.task_register.specs.declared.seats.TaskResult.{TaskResult}
@@ -27,13 +27,14 @@ start_by parent t = record {
   bytes = t.part.bytes;
 }
 
--- the task of the seat, over with this outcome
-abbrev pub ended_with : SeatedTask → Outcome → TaskResult
-ended_with own o = record {
+-- the task of the seat, over with this outcome, whole or not
+abbrev pub ended_with : SeatedTask → Outcome → Bool → TaskResult
+ended_with own o whole = record {
   own = own;
   used = o.used;
   r0 = o.r0;
   ran = o.ran;
+  whole = whole;
   base = o.part.base;
   bytes = o.part.bytes;
 }

@@ -178,7 +178,7 @@ impl<J: JobId> TaskRegister<J> {
     }
 
     // The seat's task is over, as the rule says.
-    fn close_as<E: EndRule>(&mut self, seat: TaskSeat<J>, outcome: &Snapshot<Outcome>)
+    fn close_as<E: EndRule>(&mut self, seat: TaskSeat<J>, outcome: &Snapshot<Outcome>, whole: bool)
         requires some { (o : EndedOf) × E.ends o × (o.own ≡ seat) }
         requires runs { (o : EndedOf) → E.ends o → J.runs o }
         ensures { (o : EndedOf) × E.ends o × (o.own ≡ seat)
@@ -186,6 +186,7 @@ impl<J: JobId> TaskRegister<J> {
             × (self.new ≡ record self.old { known = with_end self.old.known o }) }
     {
         let _ = outcome;
+        let _ = whole;
         let TaskSeat { seat, of: _ } = seat;
         let table = &self.table;
         table.shared.join_seat::<TakesTask>(&mut self.seat, seat);
@@ -205,15 +206,15 @@ impl<J: JobId> TaskRegister<J> {
         self.add_child_as::<Brand>(parent, child)
     }
 
-    /// The seat's task, which is open, is over with this outcome.
-    pub fn close(&mut self, seat: TaskSeat<J>, outcome: &Snapshot<Outcome>)
-        requires runs { J.runs (ended_with seat outcome.now.value) }
+    /// The seat's task, which is open, is over with this outcome, whole or not.
+    pub fn close(&mut self, seat: TaskSeat<J>, outcome: &Snapshot<Outcome>, whole: bool)
+        requires runs { J.runs (ended_with seat outcome.now.value whole) }
         ensures open { IsOpen self.old.known self.old.waiting seat }
         ensures over { self.new ≡ record self.old {
-          known = with_end self.old.known (ended_with seat outcome.now.value);
+          known = with_end self.old.known (ended_with seat outcome.now.value whole);
         } }
     {
-        self.close_as::<Brand>(seat, outcome);
+        self.close_as::<Brand>(seat, outcome, whole);
     }
 
     /// Keeps the seat of a task that waits, behind those that wait already.

@@ -22,13 +22,14 @@ pub struct SeatedTask {
     pub children: LinkedList<TaskStart>,
 }
 
-/// A task that is over: what it used, R0, whether it ran, and where it left which bytes. No value
-/// of it is made.
+/// A task that is over: what it used, R0, whether it ran, whether it is whole, and where it left
+/// which bytes. A whole one ran, and none of its spawns was refused. No value of it is made.
 pub struct TaskResult {
     pub own: SeatedTask,
     pub used: u32,
     pub r0: u64,
     pub ran: bool,
+    pub whole: bool,
     pub base: usize,
     pub bytes: LinkedList<u8>,
 }

@@ -23,13 +23,25 @@ module _ {S : Type 0} (spawns : S → SpawnRecord → Result (Unit {0}) SpawnRec
   GoesThrough old [] new = new ≡ old
   GoesThrough old (a ∷ later) new = (mid : S) × Replied old a mid × GoesThrough mid later new
 
+-- a run that was whole stays so, but for a spawn of it that is refused
+abbrev pub whole_after : Bool → Bool → Bool
+whole_after true whole = false
+whole_after false whole = whole
+
+-- none of these spawns was refused
+abbrev pub none_refused : List SpawnRequest → Bool
+none_refused [] = true
+none_refused (a ∷ later) = whole_after a.refused (none_refused later)
+
 -- A task by itself came to this end: what is left of its part, what it used and R0, while the
--- spawner went `through` what it asked for.
+-- spawner went `through` what it asked for. It is told as whole exactly where none of its spawns was
+-- refused.
 pub record RunsAlone (p : Program) (entries : Entries) (s : State) (through : List SpawnRequest
-    → Type 0) (r0 used : ℕ) (bytes : List ℕ) : Type 0 where
+    → Type 0) (r0 used : ℕ) (bytes : List ℕ) (whole : Bool) : Type 0 where
   pub asked : List SpawnRequest
   pub last : State
   pub alone : Solo p entries s asked r0 last
   pub used_is : used ≡ last.used
   pub bytes_are : bytes ≡ last.part
   pub went : through asked
+  pub told : whole ≡ none_refused asked

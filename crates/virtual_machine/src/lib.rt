@@ -29,4 +29,4 @@ mod running;
 pub use arena::Arena;
 pub use frames::{ArenaFrames, Frames};
 pub use observing::{Nobody, RunObserver};
-pub use running::run_to_end;
+pub use running::{RunEnd, run_to_end};

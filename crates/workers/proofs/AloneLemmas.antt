@@ -13,19 +13,16 @@ use Rattle.credit_book.specs.History.{table_of}
 use Rattle.task_trees.specs.Solo.{IsGiven}
 use Rattle.task_register.specs.declared.seats.TaskStart.{TaskStart}
 use Rattle.task_register.specs.declared.seats.TaskResult.{TaskResult}
-use Rattle.task_register.specs.Rule.{EachIs}
 use Rattle.job_answer.specs.Agreement.{ReportsStart, EndsSo, shares}
 use Rattle.job_answer.specs.Gathered.{RanByItself}
 use Rattle.job_answer.specs.Closing.{ClosesJob}
 use Rattle.job_answer.specs.OneAnswer.{RunsOrNot, runs_by}
 use Rattle.job_answer.proofs.Closing.{balance_closed}
 use Rattle.job_answer.proofs.Desking.{desk_once}
+use Rattle.job_answer.proofs.OverLemmas.{each_at, one_some}
 use Rattle.job_answer.proofs.SoloCredit.{run_left}
 use Rattle.job_answer.proofs.Keyed.{times_below}
 use Rattle.workers.specs.EndedAlone.{EndedAlone, GivesAlone, ended_alone}
-
-pub one_some : {X : Type 0} (o : Option X) (a b : X) → o ≡ Some a → o ≡ Some b → a ≡ b
-one_some o a b x y = cc
 
 -- a program of the list as the machine has it is one of the list
 unmapped : (programs : List Checked) (n : ℕ) (p : Program) → slice_get (map program_of programs) n ≡ Some p →
@@ -33,11 +30,6 @@ unmapped : (programs : List Checked) (n : ℕ) (p : Program) → slice_get (map 
 unmapped [] n p e = absurd (cc)
 unmapped (x ∷ xs) zero p e = (x, refl, one_some (Some (program_of x)) (program_of x) p refl e)
 unmapped (x ∷ xs) (suc n) p e = unmapped xs n p e
-
-pub each_at : (P : TaskResult → Type 0) (os : List TaskResult) (k : ℕ) (o : TaskResult) → EachIs P os → slice_get os k ≡ Some o → P o
-each_at P [] k o each e = absurd (cc)
-each_at P (x ∷ xs) zero o each e = subst P (one_some (Some x) x o refl e) each.0
-each_at P (x ∷ xs) (suc k) o each e = each_at P xs k o each.1 e
 
 one_where : Bool → ℕ
 one_where b = cond b 1 0

@@ -1,5 +1,5 @@
 -- What holds of each task that is over, and what it says of a closed job's report.
-use Rattle.std.proofs.Common.{◌≡◌, ℕ, ◌<◌, List, [], ◌∷◌, length, get_or, true, Some, refl, sym, ap, ◌∙◌, subst, arith}
+use Rattle.std.proofs.Common.{◌≡◌, ℕ, ◌<◌, List, [], ◌∷◌, length, get_or, Bool, true, Some, refl, sym, ap, ◌∙◌, subst, arith}
 use Rattle.std.specs.Prelude.{All, slice_get}
 use Rattle.std.proofs.lemmas.Option.{slice_get-get_or}
 use Rattle.credit_book.specs.declared.event.TaskEnd.{TaskEnd}
@@ -9,33 +9,14 @@ use Rattle.credit_book.specs.History.{table_of}
 use Rattle.task_register.specs.declared.seats.SeatedTask.{SeatedTask}
 use Rattle.task_register.specs.declared.seats.TaskStart.{TaskStart}
 use Rattle.task_register.specs.declared.seats.TaskResult.{TaskResult}
-use Rattle.task_register.specs.Rule.{EachIs}
 use Rattle.job_answer.specs.Agreement.{ReportsStart, EndsSo}
 use Rattle.job_answer.specs.Closing.{ClosesJob}
 use Rattle.job_answer.proofs.Desking.{desk_once}
+use Rattle.job_answer.proofs.OverLemmas.{each_at, one_some}
 use Rattle.job_answer.proofs.Keyed.{times_below}
 use Rattle.workers.specs.Heard.{HasHeard, HasHeardAll}
 use Rattle.workers.specs.Seats.{IsTaskOver, RanAndPaid}
-use Rattle.workers.proofs.AloneLemmas.{each_at, one_some, some_counted}
-
-module _ (P Q : TaskResult → Type 0) (weaker : (o : TaskResult) → P o → Q o) where
-  each_weaker : (os : List TaskResult) → EachIs P os → EachIs Q os
-  each_weaker [] each = tt
-  each_weaker (o ∷ os) each = (weaker o each.0, each_weaker os each.1)
-
-  -- a closed job closes where less is to hold of each task
-  pub closes_weaker : (job issued size : ℕ) (root : TaskStart) (report : Report) → ClosesJob job issued size root P report → ClosesJob job issued size root Q report
-  closes_weaker job issued size root report closed = record {
-    history = closed.history;
-    known = closed.known;
-    legal = closed.legal;
-    complete = closed.complete;
-    report_of = closed.report_of;
-    agrees = closed.agrees;
-    all = closed.all;
-    first = closed.first;
-    each = each_weaker closed.known.over closed.each;
-  }
+use Rattle.workers.proofs.AloneLemmas.{some_counted}
 
 module _ {G : Type 0} (begins ends : G → ℕ → Type 0) (gate : G) (runs : TaskResult → Type 0)
     (heard : (o : TaskResult) → runs o → o.ran ≡ true → HasHeard begins ends gate o.own.number)
@@ -65,9 +46,9 @@ module _ {G : Type 0} (begins ends : G → ℕ → Type 0) (gate : G) (runs : Ta
       one_heard i (get_or report.tasks.items i d) (slice_get-get_or report.tasks.items i d lt) (omega (arith, long, tasks, lt))
 
 -- a task that is over is settled once it is known that the gate was told of it
-pub settled_heard : (runs : TaskResult → Type 0) (heard : ℕ → Type 0) (seat : _) (outcome : Outcome) (number : ℕ) → outcome.number ≡ number → (outcome.ran ≡ true → heard number)
-    → IsTaskOver (λ o. (o.ran ≡ true → heard o.own.number) → RanAndPaid runs o) seat outcome → IsTaskOver (RanAndPaid runs) seat outcome
-settled_heard runs heard seat outcome number is told over = record {
+pub settled_heard : (runs : TaskResult → Type 0) (heard : ℕ → Type 0) (seat : _) (outcome : Outcome) (whole : Bool) (number : ℕ) → outcome.number ≡ number → (outcome.ran ≡ true → heard number)
+    → IsTaskOver (λ o. (o.ran ≡ true → heard o.own.number) → RanAndPaid runs o) seat outcome whole → IsTaskOver (RanAndPaid runs) seat outcome whole
+settled_heard runs heard seat outcome whole number is told over = record {
   task = over.task;
   there = over.there;
   number = over.number;

@@ -5,3 +5,4 @@ pub mod SeatLemmas
 pub mod AloneLemmas
 pub mod NoRefusals
 pub mod HeardLemmas
+pub mod RefusalLemmas

@@ -114,8 +114,8 @@ module _ (job issued : ℕ) (h : List Event) (known : RegisterState) (ts : List 
       works_by (standing_at (table_of h) own.number).stage is_alive_now
       (sym ((sound_of job issued h legal).0.queued own.number) ∙ ap (times own.number) queued ∙ none_waits job ts ss own.number seats open_now.not_waiting)
 
-  pub affords : (o : Outcome) → IsPaidFor (ended_with own o) → o.used ≤ (standing_at (table_of h) own.number).held
-  affords o paid =
+  pub affords : (o : Outcome) (whole : Bool) → IsPaidFor (ended_with own o whole) → o.used ≤ (standing_at (table_of h) own.number).held
+  affords o whole paid =
       let balanced = (agrees.table.balanced own.number own.birth open_now.task.birth).alive is_alive_now in
       let children = ap shares open_now.task.children in
       omega (arith, balanced, children, paid)

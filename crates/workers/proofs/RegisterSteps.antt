@@ -1,5 +1,5 @@
 -- What lies under a job's lock agrees after each call of the book.
-use Rattle.std.proofs.Common.{◌≡◌, ℕ, ◌+◌, ◌≤◌, ◌<◌, eqb, eq-eqb, zero, suc, List, [], ◌∷◌, ◌++◌, length, slice_get, refl, sym, ◌∙◌, arith, ap, subst, true, true≢false, ◌==◌, Some}
+use Rattle.std.proofs.Common.{Bool, ◌≡◌, ℕ, ◌+◌, ◌≤◌, ◌<◌, eqb, eq-eqb, zero, suc, List, [], ◌∷◌, ◌++◌, length, slice_get, refl, sym, ◌∙◌, arith, ap, subst, true, true≢false, ◌==◌, Some}
 use Rattle.helpers.specs.declared.spawner.SpawnRecord.{SpawnRecord}
 use Rattle.credit_book.specs.declared.event.Event.{Event}
 use Rattle.credit_book.specs.declared.event.Event.TheVariants.{Open, Park, Claim, End}
@@ -49,14 +49,14 @@ pub has_parked : (job issued n : ℕ) (known : RegisterState) (h h' : List Event
 has_parked job issued n known h h' desk is legal =
     subst (λ l. RegisterAgrees known l) (sym is) (desk_park known h desk n (may_last job issued h h' (Park n) is legal))
 
-pub ended : (job issued : ℕ) (known known' : RegisterState) (h h' : List Event) (own : SeatedTask) (o : Outcome) → RegisterAgrees known h → own.number ≡ o.number →
-    h' ≡ h ++ end_event o ∷ [] → IsHistoryOf job issued h' → known' ≡ with_end known (ended_with own o) → RegisterAgrees known' h'
-ended job issued known known' h h' own o desk number is legal now =
+pub ended : (job issued : ℕ) (known known' : RegisterState) (h h' : List Event) (own : SeatedTask) (o : Outcome) (whole : Bool) → RegisterAgrees known h → own.number ≡ o.number →
+    h' ≡ h ++ end_event o ∷ [] → IsHistoryOf job issued h' → known' ≡ with_end known (ended_with own o whole) → RegisterAgrees known' h'
+ended job issued known known' h h' own o whole desk number is legal now =
     let e : Event = End own.number o.used o.r0 o.ran o.part.base o.part.bytes in
     let same : end_event o ≡ e = ap (λ n. End n o.used o.r0 o.ran o.part.base o.part.bytes) (sym number) in
     let is' : h' ≡ h ++ e ∷ [] = is ∙ ap (λ x. h ++ x ∷ []) same in
-    subst (λ k. RegisterAgrees k h') (sym now) (subst (λ l. RegisterAgrees (with_end known (ended_with own o)) l) (sym is')
-    (desk_end known h desk (ended_with own o) (may_last job issued h h' e is' legal)))
+    subst (λ k. RegisterAgrees k h') (sym now) (subst (λ l. RegisterAgrees (with_end known (ended_with own o whole)) l) (sym is')
+    (desk_end known h desk (ended_with own o whole) (may_last job issued h h' e is' legal)))
 
 pub seats_push : (job : ℕ) (ts : List Ticket) (ss : List SeatedTask) (t : Ticket) (s : SeatedTask) → AreSeats job ts ss → IsSeatOf t s → t.job ≡ job →
     AreSeats job (ts ++ t ∷ []) (ss ++ s ∷ [])

@@ -1,5 +1,5 @@
 -- A task that runs on a frame of its own is the ticket's task by itself.
-use Rattle.std.proofs.Common.{◌≡◌, ℕ, ◌<◌, ◌≤◌, ◌^◌, List, [], ◌∷◌, zero, suc, Bool, length, get_or, map, Some, sym, subst, ap, arith}
+use Rattle.std.proofs.Common.{◌≡◌, ℕ, ◌<◌, ◌≤◌, ◌^◌, List, [], ◌∷◌, zero, suc, Bool, false, length, get_or, map, Some, sym, subst, ap, arith}
 use Rattle.std.specs.Prelude.{slice_get}
 use Rattle.machine_model.specs.Machine.{Entries}
 use Rattle.machine_model.specs.Value.{Registers}
@@ -26,33 +26,33 @@ module _ (c : Checked) (ticket : Ticket) (verified : IsVerified c) (suffices : S
       (subst (λ (f : Frame). IsCovered c (at_slot f 0) ticket.part (record { held = ticket.held; used = 0 })) (sym entered)
       (covered_entry c ticket.part ticket.held ticket.arg verified suffices.fits small suffices.affords suffices.limit fits)))
 
-  pub alone_of : (entries : Entries) (through : ℕ → List SpawnRequest → Type 0) (r0 used : ℕ) (bytes : List ℕ) →
+  pub alone_of : (entries : Entries) (through : ℕ → List SpawnRequest → Type 0) (r0 used : ℕ) (bytes : List ℕ) (told : Bool) →
       ((registers : Registers) → RepresentsTask c (at_slot frame 0) registers →
-      RunsAlone (program_of c) entries (state_of (at_slot frame 0) part credit registers) (through part.base) r0 used bytes) →
-      RunsAlone (program_of c) entries (entering ticket.arg ticket.held ticket.part.bytes) (through ticket.part.base) r0 used bytes
-  alone_of entries through r0 used bytes alone =
+      RunsAlone (program_of c) entries (state_of (at_slot frame 0) part credit registers) (through part.base) r0 used bytes told) →
+      RunsAlone (program_of c) entries (entering ticket.arg ticket.held ticket.part.bytes) (through ticket.part.base) r0 used bytes told
+  alone_of entries through r0 used bytes told alone =
       let registers = entry_registers (length ticket.part.bytes) ticket.arg in
       let behind : RepresentsTask c (at_slot frame 0) registers =
       subst (λ (f : Frame). RepresentsTask c (at_slot f 0) registers) (sym entered)
       (behind_entry c (length ticket.part.bytes) ticket.arg verified suffices.fits small fits) in
       subst (λ (k : Credit). RunsAlone (program_of c) entries
-      (state_of (at_slot (entry_frame (length ticket.part.bytes) ticket.arg) 0) ticket.part k registers) (through ticket.part.base) r0 used bytes) paid
+      (state_of (at_slot (entry_frame (length ticket.part.bytes) ticket.arg) 0) ticket.part k registers) (through ticket.part.base) r0 used bytes told) paid
       (subst (λ (q : Piece). RunsAlone (program_of c) entries
-      (state_of (at_slot (entry_frame (length ticket.part.bytes) ticket.arg) 0) q credit registers) (through q.base) r0 used bytes) whole
-      (subst (λ (f : Frame). RunsAlone (program_of c) entries (state_of (at_slot f 0) part credit registers) (through part.base) r0 used bytes) entered
+      (state_of (at_slot (entry_frame (length ticket.part.bytes) ticket.arg) 0) q credit registers) (through q.base) r0 used bytes told) whole
+      (subst (λ (f : Frame). RunsAlone (program_of c) entries (state_of (at_slot f 0) part credit registers) (through part.base) r0 used bytes told) entered
       (alone registers behind)))
 
 -- the outcome of a task that ran, whose spawner came back as it was left
 pub outcome_of : {S : Type 0} (programs : List Checked) (c : Checked) (entries : Entries) (ticket : Ticket) (through : S → List SpawnRequest → Type 0)
-    (silent : Type 0) (left back : S) (outcome : Outcome) → left ≡ back → entries ≡ entries_of (map program_of programs) →
-    slice_get programs ticket.program ≡ Some c → Suffices c ticket → IsRunBy c entries ticket (through back) outcome →
-    IsOutcome programs ticket (through left) silent outcome
-outcome_of programs c entries ticket through silent left back outcome same knows named suffices run =
-    rw same (subst (λ (b : Bool). by_ran b (IsRunOf programs ticket (through back) outcome) (IsUnrun ticket outcome × silent)) (sym run.ran) (record {
+    (silent : Type 0) (left back : S) (outcome : Outcome) (whole : Bool) → left ≡ back → entries ≡ entries_of (map program_of programs) →
+    slice_get programs ticket.program ≡ Some c → Suffices c ticket → IsRunBy c entries ticket (through back) outcome whole →
+    IsOutcome programs ticket (through left) silent outcome whole
+outcome_of programs c entries ticket through silent left back outcome whole same knows named suffices run =
+    rw same (subst (λ (b : Bool). by_ran b (IsRunOf programs ticket (through back) outcome whole) (IsUnrun ticket outcome × (whole ≡ false) × silent)) (sym run.ran) (record {
       program = c;
       named = named;
       suffices = suffices;
-      run = subst (λ (e : Entries). IsRunBy c e ticket (through back) outcome) knows run;
+      run = subst (λ (e : Entries). IsRunBy c e ticket (through back) outcome whole) knows run;
     }))
 
 -- what stands at a place of a list

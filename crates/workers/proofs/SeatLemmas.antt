@@ -72,9 +72,9 @@ mapped (x ∷ xs) zero p e = ap (λ (o : Option Checked). some_program o) e
     some_program (Some c) = Some (program_of c)
 mapped (x ∷ xs) (suc n) p e = mapped xs n p e
 
-run_is : (programs : List Checked) (ticket : Ticket) (through : List SpawnRequest → Type 0) (outcome : Outcome) (parent : ℕ) (run : IsRunOf programs ticket through outcome) →
-    RanByItself (map program_of programs) (ended_with (seated_as ticket parent (map (handed ticket.number ticket.part.base) (taken run.run.alone.asked))) outcome)
-run_is programs ticket through outcome parent run = record {
+run_is : (programs : List Checked) (ticket : Ticket) (through : List SpawnRequest → Type 0) (outcome : Outcome) (whole : Bool) (parent : ℕ) (run : IsRunOf programs ticket through outcome whole) →
+    RanByItself (map program_of programs) (ended_with (seated_as ticket parent (map (handed ticket.number ticket.part.base) (taken run.run.alone.asked))) outcome whole)
+run_is programs ticket through outcome whole parent run = record {
   program = program_of run.program;
   there = mapped programs ticket.program run.program run.named;
   suffices = run.suffices;
@@ -85,21 +85,24 @@ run_is programs ticket through outcome parent run = record {
   bytes = run.run.alone.bytes_are;
   base = run.run.base;
   children = refl;
+  told = run.run.alone.told;
 }
 
-unrun_is : (ticket : Ticket) (outcome : Outcome) (parent : ℕ) → IsUnrun ticket outcome → IsNotRun (ended_with (seated_as ticket parent []) outcome)
-unrun_is ticket outcome parent u = record {
+unrun_is : (ticket : Ticket) (outcome : Outcome) (whole : Bool) (parent : ℕ) → IsUnrun ticket outcome → whole ≡ false →
+    IsNotRun (ended_with (seated_as ticket parent []) outcome whole)
+unrun_is ticket outcome whole parent u not_whole = record {
   used = u.used;
   r0 = u.r0;
   base = ap (λ (q : Piece). q.base) u.part;
   bytes = ap (λ (q : Piece). q.bytes) u.part;
   children = refl;
+  whole = not_whole;
 }
 
 module _ {S : Type 0} (old new : S) (turn : S → Option SeatedTask) (spawns : S → SpawnRecord → Result (Unit {0}) SpawnRecord → S → Type 0)
     (adds : AddsEachChild (λ s. task_in (turn s)) spawns) (programs : List Checked) (holds : TaskResult → Type 0)
     (allows : (o : TaskResult) → RunsOrNot (map program_of programs) o → holds o) (ticket : Ticket) (task : SeatedTask)
-    (there : turn old ≡ Some task) (seat : IsSeatOf ticket task) (few : ticket.number < 2 ^ 32) (outcome : Outcome) where
+    (there : turn old ≡ Some task) (seat : IsSeatOf ticket task) (few : ticket.number < 2 ^ 32) (outcome : Outcome) (whole : Bool) where
   -- a seat of a task that has a number is there
   is_there : (o : Option SeatedTask) (own : SeatedTask) → task_in o ≡ own → own.number ≡ ticket.number → o ≡ Some own
   is_there None own is number =
@@ -107,7 +110,7 @@ module _ {S : Type 0} (old new : S) (turn : S → Option SeatedTask) (spawns : S
       absurd (omega (arith, big, few))
   is_there (Some t) own is number = ap Some is
 
-  over_ran : outcome.ran ≡ true → IsRunOf programs ticket (λ asked. GoesThrough spawns ticket.part.base old asked new) outcome → IsTaskOver holds (turn new) outcome
+  over_ran : outcome.ran ≡ true → IsRunOf programs ticket (λ asked. GoesThrough spawns ticket.part.base old asked new) outcome whole → IsTaskOver holds (turn new) outcome whole
   over_ran ran run =
       let asked = run.run.alone.asked in
       let added = has_borne (λ s. task_in (turn s)) spawns adds ticket.part.base old new asked run.run.alone.went in
@@ -119,28 +122,28 @@ module _ {S : Type 0} (old new : S) (turn : S → Option SeatedTask) (spawns : S
         task = own;
         there = is_there (turn new) own is refl;
         number = sym run.run.number;
-        runs = allows (ended_with own outcome)
-            (subst (λ (b : Bool). runs_by b (map program_of programs) (ended_with own outcome)) (sym ran) (run_is programs ticket _ outcome task.birth.parent run));
+        runs = allows (ended_with own outcome whole)
+            (subst (λ (b : Bool). runs_by b (map program_of programs) (ended_with own outcome whole)) (sym ran) (run_is programs ticket _ outcome whole task.birth.parent run));
       }
 
-  over_unrun : outcome.ran ≡ false → IsUnrun ticket outcome → new ≡ old → IsTaskOver holds (turn new) outcome
-  over_unrun ran unrun same =
+  over_unrun : outcome.ran ≡ false → IsUnrun ticket outcome → whole ≡ false → new ≡ old → IsTaskOver holds (turn new) outcome whole
+  over_unrun ran unrun not_whole same =
       let own : SeatedTask = seated_as ticket task.birth.parent [] in
       record {
         task = own;
         there = ap turn same ∙ there ∙ ap Some (begun_as ticket task seat);
         number = sym unrun.number;
-        runs = allows (ended_with own outcome)
-            (subst (λ (b : Bool). runs_by b (map program_of programs) (ended_with own outcome)) (sym ran) (unrun_is ticket outcome task.birth.parent unrun));
+        runs = allows (ended_with own outcome whole)
+            (subst (λ (b : Bool). runs_by b (map program_of programs) (ended_with own outcome whole)) (sym ran) (unrun_is ticket outcome whole task.birth.parent unrun not_whole));
       }
 
   by_either : (b : Bool) → outcome.ran ≡ b →
-      by_ran b (IsRunOf programs ticket (λ asked. GoesThrough spawns ticket.part.base old asked new) outcome) (IsUnrun ticket outcome × (new ≡ old)) →
-      IsTaskOver holds (turn new) outcome
+      by_ran b (IsRunOf programs ticket (λ asked. GoesThrough spawns ticket.part.base old asked new) outcome whole) (IsUnrun ticket outcome × (whole ≡ false) × (new ≡ old)) →
+      IsTaskOver holds (turn new) outcome whole
   by_either true ran h = over_ran ran h
-  by_either false ran h = over_unrun ran h.0 h.1
+  by_either false ran h = over_unrun ran h.0 h.1 h.2
 
-  pub is_over : IsOutcome programs ticket (λ asked. GoesThrough spawns ticket.part.base old asked new) (new ≡ old) outcome → IsTaskOver holds (turn new) outcome
+  pub is_over : IsOutcome programs ticket (λ asked. GoesThrough spawns ticket.part.base old asked new) (new ≡ old) outcome whole → IsTaskOver holds (turn new) outcome whole
   is_over h = by_either outcome.ran refl h
 
 -- a child more, and no other change of what is known
@@ -150,19 +153,19 @@ one_more_is old new child h =
     ap task_in h.after ∙ ap (λ (o : Option SeatedTask). with_one_more (task_in o) (start_of (task_in o).number child)) (sym h.there)
 
 -- an outcome is of its ticket's job
-pub job_is : (programs : List Checked) (ticket : Ticket) (through : List SpawnRequest → Type 0) (silent : Type 0) (outcome : Outcome) →
-    IsOutcome programs ticket through silent outcome → outcome.job ≡ ticket.job
-job_is programs ticket through silent outcome h = by_either outcome.ran h
+pub job_is : (programs : List Checked) (ticket : Ticket) (through : List SpawnRequest → Type 0) (silent : Type 0) (outcome : Outcome) (whole : Bool) →
+    IsOutcome programs ticket through silent outcome whole → outcome.job ≡ ticket.job
+job_is programs ticket through silent outcome whole h = by_either outcome.ran h
   where
-    by_either : (b : Bool) → by_ran b (IsRunOf programs ticket through outcome) (IsUnrun ticket outcome × silent) → outcome.job ≡ ticket.job
+    by_either : (b : Bool) → by_ran b (IsRunOf programs ticket through outcome whole) (IsUnrun ticket outcome × (whole ≡ false) × silent) → outcome.job ≡ ticket.job
     by_either true run = run.run.job
     by_either false unrun = unrun.0.job
 
 -- and it has its ticket's number
-pub number_is : (programs : List Checked) (ticket : Ticket) (through : List SpawnRequest → Type 0) (silent : Type 0) (outcome : Outcome) →
-    IsOutcome programs ticket through silent outcome → outcome.number ≡ ticket.number
-number_is programs ticket through silent outcome h = by_either outcome.ran h
+pub number_is : (programs : List Checked) (ticket : Ticket) (through : List SpawnRequest → Type 0) (silent : Type 0) (outcome : Outcome) (whole : Bool) →
+    IsOutcome programs ticket through silent outcome whole → outcome.number ≡ ticket.number
+number_is programs ticket through silent outcome whole h = by_either outcome.ran h
   where
-    by_either : (b : Bool) → by_ran b (IsRunOf programs ticket through outcome) (IsUnrun ticket outcome × silent) → outcome.number ≡ ticket.number
+    by_either : (b : Bool) → by_ran b (IsRunOf programs ticket through outcome whole) (IsUnrun ticket outcome × (whole ≡ false) × silent) → outcome.number ≡ ticket.number
     by_either true run = run.run.number
     by_either false unrun = unrun.0.number

@@ -5,6 +5,7 @@ use Rattle.credit_book.specs.declared.task.Outcome.{Outcome}
 use Rattle.credit_book.specs.declared.task.Ticket.{Ticket}
 use Rattle.credit_book.specs.Books.{BookState, spawn_event, ticket_of}
 use Rattle.credit_book.specs.History.{table_of}
+use Rattle.lanes.specs.Interleaving.{RefusesTicket}
 use Rattle.lanes.specs.Plain.{ticket_data}
 use Rattle.lanes.specs.Sharing.{IsIdle, IsTaken, Moved, Puts}
 use Rattle.workers.specs.AtDesk.{HasMore, IsParked}
@@ -27,12 +28,13 @@ pub record IsHanded (old : Moved) (child : SpawnRecord) (new : Moved) : Type 0 w
   pub number : ℕ
   pub kept : IsKept old (ticket_of job number child) new
 
--- into the worker's own lane, and the desk is as it was; or it is parked at the desk, and the lanes
--- are as they were
+-- into the worker's own lane, and the desk is as it was; or, where that refuses it, it is parked at
+-- the desk, and the lanes are as they were
 abbrev pub IsKeptBeside : Moved → BookState → Ticket → Moved → BookState → Type 0
 IsKeptBeside lanes desk ticket lanes_after desk_after =
     (Puts ticket_data lanes (ticket ∷ []) lanes_after × (desk_after ≡ desk))
-    ⊎ ((lanes_after ≡ lanes) × IsParked desk ticket desk_after)
+    ⊎ (RefusesTicket ticket_data lanes.own.next lanes.own.moved × (lanes_after ≡ lanes)
+    × IsParked desk ticket desk_after)
 
 -- The book at the desk has this child, whose parent is the task whose turn it is. Its ticket is
 -- kept.

@@ -7,3 +7,4 @@ pub mod Locked
 pub mod AtDesk
 pub mod Heard
 pub mod Seats
+pub mod Closed

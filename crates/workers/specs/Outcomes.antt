@@ -22,31 +22,33 @@ abbrev pub Suffices : Checked → Ticket → Type 0
 Suffices p ticket = IsGiven (program_of p) ticket.held ticket.part.bytes
 
 -- The ticket's task, by itself on this program, while the spawner went `through` what it asked for.
--- The outcome has the place where the part begins.
+-- The outcome has the place where the part begins. The run is told as whole exactly where none of
+-- its spawns was refused.
 pub record IsRunBy (p : Checked) (entries : Entries) (ticket : Ticket) (through : List SpawnRequest
-    → Type 0) (outcome : Outcome) : Type 0 where
+    → Type 0) (outcome : Outcome) (whole : Bool) : Type 0 where
   pub job : outcome.job ≡ ticket.job
   pub number : outcome.number ≡ ticket.number
   pub ran : outcome.ran ≡ true
   pub alone : RunsAlone (program_of p) entries (entering ticket.arg ticket.held ticket.part.bytes)
-      through outcome.r0 outcome.used outcome.part.bytes
+      through outcome.r0 outcome.used outcome.part.bytes whole
   pub base : outcome.part.base ≡ ticket.part.base
 
 -- the ticket's task, by itself on the program that it names, for which its credit and its part
 -- suffice
 pub record IsRunOf (programs : List Checked) (ticket : Ticket) (through : List SpawnRequest
-    → Type 0) (outcome : Outcome) : Type 0 where
+    → Type 0) (outcome : Outcome) (whole : Bool) : Type 0 where
   pub program : Checked
   pub named : slice_get programs ticket.program ≡ Some program
   pub suffices : Suffices program ticket
-  pub run : IsRunBy program (entries_of (map program_of programs)) ticket through outcome
+  pub run : IsRunBy program (entries_of (map program_of programs)) ticket through outcome whole
 
 abbrev pub by_ran : Bool → Type 0 → Type 0 → Type 0
 by_ran true ran unran = ran
 by_ran false ran unran = unran
 
--- the ticket's task was run so, or not at all, and then the spawner is as it was
+-- The ticket's task was run so, or not at all. Then it isn't whole, and the spawner is as it was.
 abbrev pub IsOutcome : List Checked → Ticket → (List SpawnRequest → Type 0) → Type 0 → Outcome
-    → Type 0
-IsOutcome programs ticket through silent outcome =
-    by_ran outcome.ran (IsRunOf programs ticket through outcome) (IsUnrun ticket outcome × silent)
+    → Bool → Type 0
+IsOutcome programs ticket through silent outcome whole =
+    by_ran outcome.ran (IsRunOf programs ticket through outcome whole)
+    (IsUnrun ticket outcome × (whole ≡ false) × silent)

@@ -1,5 +1,5 @@
 -- The seat that a worker holds of the task that it runs.
-use Rattle.std.specs.Prelude.{◌≡◌, [], Option, Some, None}
+use Rattle.std.specs.Prelude.{◌≡◌, [], Bool, Option, Some, None}
 use Rattle.helpers.specs.declared.spawner.SpawnRecord.{SpawnRecord}
 use Rattle.credit_book.specs.declared.task.Outcome.{Outcome}
 use Rattle.task_register.specs.declared.seats.SeatedTask.{SeatedTask}
@@ -29,10 +29,11 @@ pub record HasOneMore (old : Option SeatedTask) (child : SpawnRecord) (new : Opt
 abbrev pub RanAndPaid : (TaskResult → Type 0) → TaskResult → Type 0
 RanAndPaid runs o = runs o × IsPaidFor o
 
--- the seat is that of the outcome's task, of which this holds
-pub record IsTaskOver (holds : TaskResult → Type 0) (seat : Option SeatedTask) (outcome : Outcome) :
+-- the seat is that of the outcome's task, whole or not, of which this holds
+pub record IsTaskOver (holds : TaskResult → Type 0) (seat : Option SeatedTask) (outcome : Outcome)
+    (whole : Bool) :
     Type 0 where
   pub task : SeatedTask
   pub there : seat ≡ Some task
   pub number : task.number ≡ outcome.number
-  pub runs : holds (ended_with task outcome)
+  pub runs : holds (ended_with task outcome whole)

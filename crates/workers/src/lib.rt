@@ -3,6 +3,7 @@
 
 // one task, without a thread
 mod gate;
+mod gate_calls;
 mod outcome;
 mod work;
 
@@ -15,7 +16,8 @@ mod fault;
 mod locked_book;
 mod seated;
 
-pub use fault::PoolFault;
+pub use fault::{NotWhole, PoolFault};
+pub use locked_book::SpawnRefused;
 
 // the threads
 mod bell;
@@ -25,7 +27,7 @@ mod run;
 mod watch;
 mod worker;
 
-pub use run::{run_here, run_job};
+pub use run::{run_job, run_whole};
 
 // the deque of one worker, for whoever runs tasks in threads of their own
 mod ticket_lane;

@@ -1,18 +1,19 @@
 //! What lies under the lock of a job: its book, and the register of what its tasks were started with.
 
-ghost use Rattle.std.specs.Prelude.{◌≡◌, ◌∷◌, [], IfOk, IfErr, length, reverse};
+ghost use Rattle.std.specs.Prelude.{◌≡◌, ◌↔◌, ◌∷◌, [], IfOk, IfErr, None, length, reverse, true};
 ghost use Rattle.credit_book.specs.Books.{IsReport, IsSpawnFault, ticket_of, spawn_event};
 ghost use Rattle.credit_book.specs.declared.event.Event.TheVariants.{Open};
 ghost use Rattle.credit_book.specs.declared.fault.BookFault.{BookFault};
 ghost use Rattle.credit_book.specs.History.{IsComplete, table_of};
-ghost use Rattle.job_answer.specs.Closing.{ClosesJob};
 ghost use Rattle.job_answer.specs.OneAnswer.{IsPaidFor};
 ghost use Rattle.task_register.specs.Handing.{ended_with, start_by};
 ghost use Rattle.task_register.specs.Rule.{empty_register, with_one_more, with_start};
 ghost use Rattle.workers.specs.AtDesk.{AreTasksEnded, HasMore, IsClaimed, IsTaskEnded, IsParked};
+ghost use Rattle.workers.specs.Closed.{ClosesWhole};
 ghost use Rattle.workers.specs.Final.{IsFinal};
 ghost use Rattle.workers.specs.Locked.{IsJustSpawned};
 
+use crate::outcome::ObservedRun;
 use crate::seated::{SeatedOutcome, SeatedTicket};
 use credit_book::{Book, Outcome, Refused, Report};
 use helpers::SpawnRecord;
@@ -20,19 +21,44 @@ use std::marker::Model;
 use std::snapshot::Snapshot;
 use task_register::{JobId, TaskRegister, TaskSeat};
 
-/// The book of a job and the register of its tasks, which agree. So the book refuses no ticket and
-/// no end that has a seat. Contracts see the book.
+/// A task of the job found no frame, or was refused a spawn. The end of such a task alone makes one.
+#[derive(Clone, Copy, Debug, PartialEq, Eq, Hash, Drop)]
+pub struct SpawnRefused {
+    seal: (),
+}
+
+/// A closed job: its report, and whether a task of it isn't whole.
+#[derive(Drop)]
+pub(crate) struct ClosedBook {
+    pub report: Report,
+    pub refused: Option<SpawnRefused>,
+}
+
+// Whether a task isn't whole, once one more has ended.
+fn refused_so_far(whole: bool, before: Option<SpawnRefused>) -> Option<SpawnRefused>
+    ensures { (result ≡ None) ↔ (whole ≡ true) × (before ≡ None) }
+{
+    if whole {
+        before
+    } else {
+        Some(SpawnRefused { seal: () })
+    }
+}
+
+/// The book of a job and the register of its tasks, which agree, and whether a task that is over isn't
+/// whole. So the book refuses no ticket and no end that has a seat. Contracts see the book.
 #[derive(Drop)]
 pub(crate) struct LockedBook<J: JobId> {
     book: Book,
     register: TaskRegister<J>,
+    refused: Option<SpawnRefused>,
 }
 
 impl<J: JobId> Model for LockedBook<J> {
     ghost use Rattle.std.specs.Prelude.{◌≡◌, length};
     ghost use Rattle.credit_book.specs.Books.{BookState};
     ghost use Rattle.job_answer.specs.Agreement.{RegisterAgrees};
-    ghost use Rattle.workers.specs.Locked.{AreQueued, AreSeats};
+    ghost use Rattle.workers.specs.Locked.{AreQueued, AreSeats, TellsSpawnRefusal};
 
     ghost Value = { BookState };
 
@@ -40,7 +66,8 @@ impl<J: JobId> Model for LockedBook<J> {
 
     ghost invariant = { λ d. RegisterAgrees d.register.known d.book.history
         × AreSeats J.board.job d.book.waiting d.register.waiting × (d.book.board ≡ J.board)
-        × (d.book.size ≡ length J.root.bytes) × AreQueued d.book };
+        × (d.book.size ≡ length J.root.bytes) × AreQueued d.book
+        × TellsSpawnRefusal d.refused d.register.known.over };
 }
 
 impl<J: JobId> LockedBook<J> {
@@ -57,7 +84,11 @@ impl<J: JobId> LockedBook<J> {
         requires first { root.number ≡ 0 }
         ensures { IsParked book root result }
     {
-        let mut desk = LockedBook { book, register };
+        let mut desk = LockedBook {
+            book,
+            register,
+            refused: None,
+        };
         desk.park(root);
         desk
     }
@@ -120,16 +151,17 @@ impl<J: JobId> LockedBook<J> {
     }
 
     // Ends the seat's task.
-    fn end_seated(&mut self, outcome: Outcome, seat: TaskSeat<J>)
+    fn end_seated(&mut self, outcome: Outcome, whole: bool, seat: TaskSeat<J>)
         requires number { seat.number ≡ outcome.number }
         requires job { outcome.job ≡ J.board.job }
-        requires runs { J.runs (ended_with seat outcome) }
-        requires paid { IsPaidFor (ended_with seat outcome) }
+        requires runs { J.runs (ended_with seat outcome whole) }
+        requires paid { IsPaidFor (ended_with seat outcome whole) }
         ensures { IsTaskEnded self.old outcome self.new }
     {
         let _ = self.book.job();
         let was = Snapshot::of(&outcome);
-        self.register.close(seat, &was);
+        self.register.close(seat, &was, whole);
+        self.refused = refused_so_far(whole, self.refused);
         match self.book.end(outcome) {
             Ok(_) => {}
             Err(_) => unreachable!(),
@@ -140,8 +172,9 @@ impl<J: JobId> LockedBook<J> {
     pub fn end(&mut self, seated: SeatedOutcome<J>)
         ensures { IsTaskEnded self.old seated self.new }
     {
-        let (outcome, seat) = seated.into_parts();
-        self.end_seated(outcome, seat);
+        let (run, seat) = seated.into_parts();
+        let ObservedRun { outcome, whole } = run;
+        self.end_seated(outcome, whole, seat);
     }
 
     /// Ends tasks, the last of the list first.
@@ -154,22 +187,35 @@ impl<J: JobId> LockedBook<J> {
         }
     }
 
-    /// The report, once no task is alive. Otherwise all comes back.
-    pub fn close(self) -> Result<Report, LockedBook<J>>
+    /// Whether a task that is over isn't whole.
+    pub fn refused(&self) -> Option<SpawnRefused> {
+        self.refused
+    }
+
+    /// The report, once no task is alive, and whether each task was whole. Otherwise all comes back.
+    pub fn close(self) -> Result<ClosedBook, LockedBook<J>>
         ensures report { IfOk result
-            (λ report. IsFinal J.board.job J.board.issued (length J.root.bytes) report) }
-        ensures closes { IfOk result (λ report. ClosesJob J.board.job J.board.issued
-            (length J.root.bytes) J.root J.runs report) }
-        ensures own { IfOk result (λ report. IsReport self.size self.history report) }
+            (λ closed. IsFinal J.board.job J.board.issued (length J.root.bytes) closed.report) }
+        ensures closes { IfOk result (λ closed. ClosesWhole J.board.job J.board.issued
+            (length J.root.bytes) J.root J.runs closed.refused closed.report) }
+        ensures own { IfOk result (λ closed. IsReport self.size self.history closed.report) }
         ensures back { IfErr result (λ back. back ≡ self) }
         ensures alive { IfErr result (λ _. IsComplete (table_of self.history) → ⊥) }
     {
-        let LockedBook { book, register } = self;
+        let LockedBook {
+            book,
+            register,
+            refused,
+        } = self;
         let mut register = register;
         register.look();
         match book.close() {
-            Ok(report) => Ok(report),
-            Err(book) => Err(LockedBook { book, register }),
+            Ok(report) => Ok(ClosedBook { report, refused }),
+            Err(book) => Err(LockedBook {
+                book,
+                register,
+                refused,
+            }),
         }
     }
 }

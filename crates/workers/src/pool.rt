@@ -14,7 +14,7 @@ use crate::held_lock::HeldLock;
 use crate::locked_book::LockedBook;
 use crate::seated::SeatedTicket;
 use crate::watch::Watch;
-use crate::worker::{Shared, Worker};
+use crate::worker::{Leave, Shared, Worker};
 use credit_book::{Book, Post};
 use helpers::Part;
 use lanes::{Lanes, lanes_between};
@@ -34,7 +34,7 @@ pub(crate) struct Station<J: JobId> {
     lanes: Lanes<SeatedTicket<J>>,
 }
 
-/// What one worker does, until a look says that the job is complete.
+/// What one worker does, until a look says that the job is complete, or it was given up.
 pub(crate) fn work<'s, R: Wait, G: Gate, J: GatedJob + 'static>(
     rt: &'s R,
     shared: &'s Shared<J>,
@@ -55,14 +55,17 @@ pub(crate) fn work<'s, R: Wait, G: Gate, J: GatedJob + 'static>(
     let mut worker = Worker::new(rt, alloc, shared, &held_lock, lanes);
     let mut rest = Rest::new(shared.bell());
     for _ in rt.forever() {
+        if worker.is_given_up() {
+            break;
+        }
         match worker.find() {
             Some(ticket) => {
                 rest.end();
-                let outcome = worker.run(alloc, ticket, &mut frames, &gate_and_observer);
-                worker.end(outcome);
+                let run = worker.run(alloc, ticket, &mut frames, &gate_and_observer);
+                worker.end(run);
             }
             None => {
-                if watch.is_complete() {
+                if worker.is_given_up() || watch.is_complete() {
                     break;
                 }
                 rest.pause(rt, worker.has_looked());
@@ -141,6 +144,56 @@ pub(crate) fn run_in_threads<
     )
 }
 
+/// Starts a thread for each other worker, and works as one worker more.
+fn work_beside<
+    's,
+    E: 's,
+    R: Threads + Wait + Sync,
+    G: Gate + Sync,
+    J: GatedJob + Send + Sync + 'static,
+>(
+    rt: &'s R,
+    scope: &Scope<'s, E>,
+    shared: &'s Shared<J>,
+    gate: &'s G,
+    own: Station<J>,
+    others: Vec<Station<J>>,
+    alloc: Global,
+) -> Station<J>
+    requires { (n : ℕ) → HasHeard G.begins G.ends gate.now n → J.heard n }
+{
+    let _ = start_all(rt, scope, shared, gate, others, alloc);
+    work(rt, shared, gate, own, alloc)
+}
+
+/// Runs the tasks in a thread for each other worker, and by the calling thread as one worker more,
+/// until all have left. A thread that can't be started costs speed alone.
+pub(crate) fn run_beside<
+    R: Threads + Wait + Sync,
+    G: Gate + Sync,
+    J: GatedJob + Send + Sync + 'static,
+>(
+    rt: &R,
+    alloc: Global,
+    shared: &Shared<J>,
+    own: Station<J>,
+    others: Vec<Station<J>>,
+    gate: &G,
+) -> Station<J>
+    requires { (n : ℕ) → HasHeard G.begins G.ends gate.now n → J.heard n }
+{
+    if others.is_empty() {
+        return work(rt, shared, gate, own, alloc);
+    }
+    thread::scope(
+        thread::scope_env(),
+        rt,
+        |scope| -> Station<J>
+            requires { (n : ℕ) → HasHeard G.begins G.ends gate.now n → J.heard n }
+        { work_beside(rt, scope, shared, gate, own, others, alloc) },
+    )
+}
+
 /// So many workers: each has its own watch over the post's board, and its own lane.
 pub(crate) fn open_workers<J: JobId + 'static>(
     alloc: Global,
@@ -160,6 +213,20 @@ pub(crate) fn open_workers<J: JobId + 'static>(
     Ok(workers)
 }
 
+/// One worker that shares its lane with nobody.
+pub(crate) fn open_worker<J: JobId + 'static>(
+    alloc: Global,
+    post: &mut Post,
+) -> Result<Station<J>, NoMemory>
+    ensures { post.new ≡ post.old }
+{
+    let mut workers = open_workers::<J>(alloc, post, 1)?;
+    match workers.pop() {
+        Some(worker) => Ok(worker),
+        None => unreachable!(),
+    }
+}
+
 /// What the workers of a job share, with the root's ticket parked: the register takes the job's
 /// name.
 pub(crate) fn open_shared<J: GatedJob + 'static>(
@@ -168,6 +235,7 @@ pub(crate) fn open_shared<J: GatedJob + 'static>(
     programs: Vec<Verified>,
     buffer: Vec<u8>,
     post: Post,
+    leave: Leave,
 ) -> Result<Shared<J>, NoMemory>
     requires table { register ≡ J.table }
     requires board { post.board ≡ J.board }
@@ -182,5 +250,6 @@ pub(crate) fn open_shared<J: GatedJob + 'static>(
     let (book, root) = Book::open(alloc, post, Part::whole(buffer))?;
     let (register, seat) = register.named::<J>();
     let root = SeatedTicket::new(root, seat);
-    Ok(Shared::new(programs, LockedBook::open(book, register, root)))
+    let desk = LockedBook::open(book, register, root);
+    Ok(Shared::new(programs, desk, leave))
 }

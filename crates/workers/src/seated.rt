@@ -4,6 +4,7 @@ ghost use Rattle.std.specs.Prelude.{◌≡◌};
 ghost use Rattle.task_register.specs.Handing.{IsSeatOf, ended_with};
 ghost use Rattle.workers.specs.Seats.{RanAndPaid};
 
+use crate::outcome::ObservedRun;
 use credit_book::{Outcome, Ticket};
 use lanes::Carried;
 use std::marker::Model;
@@ -44,13 +45,6 @@ impl<J: JobId> SeatedTicket<J> {
         SeatedTicket { ticket, seat }
     }
 
-    /// The ticket.
-    pub fn ticket(&self) -> &Ticket
-        ensures { result.now ≡ self.now }
-    {
-        &self.ticket
-    }
-
     /// The ticket and its seat.
     pub fn into_parts(self) -> (Ticket, TaskSeat<J>)
         ensures ticket { result.0 ≡ self }
@@ -62,11 +56,12 @@ impl<J: JobId> SeatedTicket<J> {
     }
 }
 
-/// How a task ended, with its seat. Contracts see it as the outcome. What the job promises of each
-/// task that is over holds of it, and it was paid for.
+/// The outcome of a task, and whether it is whole, with its seat. Contracts see it as the outcome.
+/// What the job promises of each task that is over holds of it, and it was paid for.
 #[derive(Drop)]
 pub(crate) struct SeatedOutcome<J: JobId> {
     outcome: Outcome,
+    whole: bool,
     seat: TaskSeat<J>,
 }
 
@@ -81,29 +76,39 @@ impl<J: JobId> Model for SeatedOutcome<J> {
     ghost view = { λ e. e.outcome };
 
     ghost invariant = { λ e. (e.seat.number ≡ e.outcome.number)
-        × (e.outcome.job ≡ J.board.job) × RanAndPaid J.runs (ended_with e.seat e.outcome) };
+        × (e.outcome.job ≡ J.board.job)
+        × RanAndPaid J.runs (ended_with e.seat e.outcome e.whole) };
 }
 
 impl<J: JobId> SeatedOutcome<J> {
     /// The outcome of the seat's task.
-    pub fn new(outcome: Outcome, seat: TaskSeat<J>) -> SeatedOutcome<J>
-        requires number { seat.number ≡ outcome.number }
-        requires job { outcome.job ≡ J.board.job }
-        requires settled { RanAndPaid J.runs (ended_with seat outcome) }
-        ensures { result ≡ outcome }
+    pub fn new(run: ObservedRun, seat: TaskSeat<J>) -> SeatedOutcome<J>
+        requires number { seat.number ≡ run.outcome.number }
+        requires job { run.outcome.job ≡ J.board.job }
+        requires settled { RanAndPaid J.runs (ended_with seat run.outcome run.whole) }
+        ensures { result ≡ run.outcome }
     {
-        SeatedOutcome { outcome, seat }
+        let ObservedRun { outcome, whole } = run;
+        SeatedOutcome {
+            outcome,
+            whole,
+            seat,
+        }
     }
 
-    /// The outcome and its seat.
-    pub fn into_parts(self) -> (Outcome, TaskSeat<J>)
-        ensures outcome { result.0 ≡ self }
+    /// The outcome, and whether it is whole, and the seat.
+    pub fn into_parts(self) -> (ObservedRun, TaskSeat<J>)
+        ensures outcome { result.0.outcome ≡ self }
         ensures number { result.1.number ≡ self.number }
         ensures job { self.job ≡ J.board.job }
-        ensures settled { RanAndPaid J.runs (ended_with result.1 self) }
+        ensures settled { RanAndPaid J.runs (ended_with result.1 self result.0.whole) }
     {
-        let SeatedOutcome { outcome, seat } = self;
-        (outcome, seat)
+        let SeatedOutcome {
+            outcome,
+            whole,
+            seat,
+        } = self;
+        (ObservedRun { outcome, whole }, seat)
     }
 }
 

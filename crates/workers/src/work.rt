@@ -1,6 +1,6 @@
 //! One task, from its ticket to its outcome.
 
-ghost use Rattle.std.specs.Prelude.{◌≡◌, ◌≤◌, ◌^◌, ◌<◌, ◌↔◌, true, IsTrue, IsSome, length, map};
+ghost use Rattle.std.specs.Prelude.{◌≡◌, ◌≤◌, ◌^◌, ◌<◌, ◌↔◌, Bool, true, IsTrue, IsSome, length, map};
 ghost use Rattle.machine_model.specs.JobState.{entries_of};
 ghost use Rattle.helpers.specs.Table.{job_table};
 ghost use Rattle.verifier.specs.Checked.{program_of, IsVerified};
@@ -12,14 +12,15 @@ ghost use Rattle.workers.specs.Heard.{HasHeard};
 ghost use Rattle.workers.specs.Outcomes.{IsOutcome, IsRunBy, Suffices};
 
 use crate::gate::{Gate, GateAndObserver};
-use crate::outcome::unrun;
+use crate::gate_calls::{tell_after, tell_before};
+use crate::outcome::{ObservedRun, not_run};
 use credit_book::{Outcome, Ticket};
 use helpers::{Entry, Spawner};
 use interpreter::{Credit, Frame};
 use machine_model::MAX_CREDIT;
 use std::alloc::Global;
 use verifier::Verified;
-use virtual_machine::{Frames, Nobody, RunObserver, run_to_end};
+use virtual_machine::{Frames, Nobody, RunEnd, RunObserver, run_to_end};
 
 /// What a spawn has to know of the program of this number, if the list has it. The call asks for at
 /// most 65,536 programs.
@@ -49,7 +50,7 @@ fn suffices(code: &Verified, ticket: &Ticket) -> bool
 fn run_ticket<'c, 's, 'g, S: Spawner, G: Gate + RunObserver>(
     frame: &mut Frame,
     task: (Ticket, &'c Verified, &'s mut S, &'g G, Global),
-) -> (Outcome, &'s mut S)
+) -> (ObservedRun, &'s mut S)
     requires zeroed { frame.old ≡ zeroed }
     requires verified { IsVerified task.1.now }
     requires own { task.1.now.helpers ≡ job_table }
@@ -58,22 +59,30 @@ fn run_ticket<'c, 's, 'g, S: Spawner, G: Gate + RunObserver>(
         → MayHandOver (S.entries task.2.now) task.0.held (S.asks s) }
     ensures alone { IsRunBy task.entry.1.now (S.entries task.entry.2.now) task.entry.0
         (λ asked. GoesThrough S.spawns task.entry.0.part.base task.entry.2.now asked result.1.now)
-        result.0 }
+        result.0.outcome result.0.whole }
     ensures entries { S.entries result.1.now ≡ S.entries task.entry.2.now }
     ensures same { result.1.ghost_name ≡ task.entry.2.ghost_name }
     ensures heard { HasHeard G.begins G.ends task.entry.3.now task.entry.0.number }
 {
     let (ticket, code, spawner, gate, alloc) = task;
     let (job, number) = (ticket.job(), ticket.number());
-    gate.before(number);
+    let begun = tell_before(gate, number);
     frame.enter(ticket.part().len() as u32, ticket.arg());
     let mut credit = Credit {
         held: ticket.held(),
         used: 0,
     };
     let mut part = ticket.into_part();
-    let r0 = run_to_end(alloc, frame, code, &mut part, &mut credit, spawner, gate);
-    gate.after(number);
+    let RunEnd { r0, whole } = run_to_end(
+        alloc,
+        frame,
+        code,
+        &mut part,
+        &mut credit,
+        spawner,
+        gate,
+    );
+    tell_after(gate, begun);
     let outcome = Outcome {
         job,
         number,
@@ -82,11 +91,12 @@ fn run_ticket<'c, 's, 'g, S: Spawner, G: Gate + RunObserver>(
         ran: true,
         part,
     };
-    (outcome, spawner)
+    (ObservedRun { outcome, whole }, spawner)
 }
 
-/// Runs the ticket's task to its end, by itself, on a frame of zeros, or not at all. The gate is
-/// told of a task that runs, and how it goes on as well.
+/// Runs the ticket's task to its end, by itself, on a frame of zeros, or not at all. Returns its
+/// outcome, and whether it ran and no spawn of it was refused. The gate is told of a task that runs,
+/// and how it goes on as well.
 ///
 /// The task isn't run where no frame can be had, or where the list has no program of its number,
 /// its credit is under the program's cost or over 2,147,483,647, or its part is shorter than the
@@ -100,35 +110,36 @@ pub(crate) fn work_observed<S: Spawner, G: Gate + RunObserver>(
     spawner: &mut S,
     frames: &mut Frames,
     gate: &G,
-) -> Outcome
+) -> ObservedRun
     requires own { AreOwn programs.now }
     requires knows { S.entries spawner.old ≡ entries_of (map program_of programs.now) }
     requires children { (s : S) → S.entries s ≡ S.entries spawner.old
         → MayHandOver (S.entries spawner.old) ticket.held (S.asks s) }
     ensures outcome { IsOutcome programs.now ticket
         (λ asked. GoesThrough S.spawns ticket.part.base spawner.old asked spawner.new)
-        (spawner.new ≡ spawner.old) result }
+        (spawner.new ≡ spawner.old) result.outcome result.whole }
     ensures entries { S.entries spawner.new ≡ S.entries spawner.old }
-    ensures heard { result.ran ≡ true → HasHeard G.begins G.ends gate.now ticket.number }
+    ensures heard { result.outcome.ran ≡ true
+        → HasHeard G.begins G.ends gate.now ticket.number }
 {
     let Some(code) = programs.get(ticket.program() as usize) else {
-        return unrun(ticket);
+        return not_run(ticket);
     };
     if !suffices(code, &ticket) {
-        return unrun(ticket);
+        return not_run(ticket);
     }
     match frames.with_frame(
         ticket.job(),
         (ticket, code, spawner, gate, alloc),
         run_ticket,
     ) {
-        Ok((outcome, back)) => {
+        Ok((observed, back)) => {
             let _ = back;
-            outcome
+            observed
         }
         Err((ticket, _, back, _, _)) => {
             let _ = back;
-            unrun(ticket)
+            not_run(ticket)
         }
     }
 }
@@ -153,9 +164,9 @@ pub fn work_one<S: Spawner, G: Gate>(
     requires knows { S.entries spawner.old ≡ entries_of (map program_of programs.now) }
     requires children { (s : S) → S.entries s ≡ S.entries spawner.old
         → MayHandOver (S.entries spawner.old) ticket.held (S.asks s) }
-    ensures outcome { IsOutcome programs.now ticket
+    ensures outcome { (whole : Bool) × IsOutcome programs.now ticket
         (λ asked. GoesThrough S.spawns ticket.part.base spawner.old asked spawner.new)
-        (spawner.new ≡ spawner.old) result }
+        (spawner.new ≡ spawner.old) result whole }
     ensures entries { S.entries spawner.new ≡ S.entries spawner.old }
     ensures heard { result.ran ≡ true → HasHeard G.begins G.ends gate.now ticket.number }
 {
@@ -163,5 +174,13 @@ pub fn work_one<S: Spawner, G: Gate>(
         gate,
         observer: &Nobody,
     };
-    work_observed(alloc, ticket, programs, spawner, frames, &gate_and_observer)
+    let ObservedRun { outcome, .. } = work_observed(
+        alloc,
+        ticket,
+        programs,
+        spawner,
+        frames,
+        &gate_and_observer,
+    );
+    outcome
 }

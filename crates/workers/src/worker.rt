@@ -5,10 +5,11 @@ ghost use Rattle.std.specs.Prelude.{◌≡◌, ◌≤◌, length};
 use crate::bell::Bell;
 use crate::gate::{Gate, GateAndObserver, GatedJob};
 use crate::held_lock::HeldLock;
-use crate::locked_book::LockedBook;
+use crate::locked_book::{ClosedBook, LockedBook, SpawnRefused};
+use crate::outcome::ObservedRun;
 use crate::seated::{SeatedOutcome, SeatedTicket, Turn};
 use crate::work::{entry_in, work_observed};
-use credit_book::{Outcome, Report, Ticket};
+use credit_book::Ticket;
 use crossbeam_utils::CachePadded;
 use helpers::{Entry, SpawnRecord, Spawner};
 use lanes::Lanes;
@@ -39,12 +40,22 @@ const MOMENTS: u32 = 8;
 /// From which try on a worker leaves the processor to others as well.
 const PATIENCE: u32 = 100;
 
+/// When the workers of a job leave.
+#[derive(Clone, Copy, PartialEq, Eq, Drop)]
+pub(crate) enum Leave {
+    /// Once the job is complete.
+    Complete,
+    /// Once it is complete, or a task of it isn't whole, so that it has no whole report any more.
+    NotWhole,
+}
+
 /// What the workers of a job share, beside their lanes. The bell, the lock, what is under it and the
 /// programs lie on lines of their own, so that who tries the lock holds nobody else up. Contracts see
 /// the programs, by which each task of the job runs.
 #[derive(Drop)]
 pub(crate) struct Shared<J: GatedJob> {
     programs: Vec<Verified>,
+    leave: Leave,
     bell: CachePadded<Bell>,
     desk: CachePadded<Mutex<CachePadded<LockedBook<J>>>>,
 }
@@ -67,7 +78,7 @@ impl<J: GatedJob> Model for Shared<J> {
 
 impl<J: GatedJob> Shared<J> {
     ghost use Rattle.std.specs.Prelude.{IfErr, IfOk, map, true};
-    ghost use Rattle.job_answer.specs.Closing.{ClosesJob};
+    ghost use Rattle.workers.specs.Closed.{ClosesWhole};
     ghost use Rattle.workers.specs.Final.{IsFinal};
     ghost use Rattle.verifier.specs.Checked.{program_of};
     ghost use Rattle.job_core.specs.Admitted.{AreOwn};
@@ -75,7 +86,7 @@ impl<J: GatedJob> Shared<J> {
     ghost use Rattle.job_answer.specs.OneAnswer.{RunsOrNot};
 
     /// The programs, and the desk under a lock.
-    pub fn new(programs: Vec<Verified>, desk: LockedBook<J>) -> Shared<J>
+    pub fn new(programs: Vec<Verified>, desk: LockedBook<J>, leave: Leave) -> Shared<J>
         requires few { length programs.items ≤ 16 }
         requires own { AreOwn programs.items }
         requires runs { (o : TaskResult) → RunsOrNot (map program_of programs.items) o
@@ -84,6 +95,7 @@ impl<J: GatedJob> Shared<J> {
     {
         Shared {
             programs,
+            leave,
             bell: CachePadded::new(Bell::new()),
             desk: CachePadded::new(Mutex::new(CachePadded::new(desk))),
         }
@@ -115,26 +127,41 @@ impl<J: GatedJob> Shared<J> {
         self.desk.lock(rt)
     }
 
-    /// The report, once all workers have left and no task is alive. Otherwise all comes back.
-    pub fn close(self) -> Result<Report, Shared<J>>
+    /// Whether workers leave, by what they see at the desk.
+    fn is_given_up(&self, desk: &LockedBook<J>) -> bool {
+        match self.leave {
+            Leave::Complete => false,
+            Leave::NotWhole => desk.refused().is_some(),
+        }
+    }
+
+    /// The report, once all workers have left and no task is alive, and whether each task was whole.
+    /// Otherwise all comes back, and why workers have left ahead of that, if they have.
+    pub fn close(self) -> Result<ClosedBook, (Shared<J>, Option<SpawnRefused>)>
         ensures report { IfOk result
-            (λ report. IsFinal J.board.job J.board.issued (length J.root.bytes) report) }
-        ensures closes { IfOk result (λ report. ClosesJob J.board.job J.board.issued
-            (length J.root.bytes) J.root J.runs report) }
-        ensures back { IfErr result (λ back. back ≡ self) }
+            (λ closed. IsFinal J.board.job J.board.issued (length J.root.bytes) closed.report) }
+        ensures closes { IfOk result (λ closed. ClosesWhole J.board.job J.board.issued
+            (length J.root.bytes) J.root J.runs closed.refused closed.report) }
+        ensures back { IfErr result (λ back. back.0 ≡ self) }
     {
         let Shared {
             programs,
+            leave,
             bell,
             desk,
         } = self;
         match desk.into_inner().into_inner().into_inner().close() {
-            Ok(report) => Ok(report),
-            Err(back) => Err(Shared {
-                programs,
-                bell,
-                desk: CachePadded::new(Mutex::new(CachePadded::new(back))),
-            }),
+            Ok(closed) => Ok(closed),
+            Err(back) => {
+                let refused = back.refused();
+                let shared = Shared {
+                    programs,
+                    leave,
+                    bell,
+                    desk: CachePadded::new(Mutex::new(CachePadded::new(back))),
+                };
+                Err((shared, refused))
+            }
         }
     }
 }
@@ -163,8 +190,8 @@ fn take_desk<'a, R: Wait, J: GatedJob>(rt: &R, shared: &'a Shared<J>) -> AtDesk<
     shared.desk(rt)
 }
 
-/// A worker's lanes, the task that it runs, whether that has a child, whether the last claim was made
-/// at the desk, and what the worker ran that the book hasn't been told of.
+/// A worker's lanes, the task that it runs, whether the last claim was made at the desk, whether the
+/// job was given up there, and what the worker ran that the book hasn't been told of.
 #[derive(Drop)]
 pub(crate) struct Worker<'a, 'b, R, J: GatedJob> {
     rt: &'a R,
@@ -172,8 +199,8 @@ pub(crate) struct Worker<'a, 'b, R, J: GatedJob> {
     held_lock: &'b HeldLock<'a, J>,
     lanes: Lanes<SeatedTicket<J>>,
     turn: Option<Turn<J>>,
-    has_child: bool,
     has_looked: bool,
+    is_given_up: bool,
     ended: Vec<SeatedOutcome<J>>,
 }
 
@@ -209,8 +236,8 @@ impl<'a, 'b, R: Wait, J: GatedJob + 'static> Worker<'a, 'b, R, J> {
             held_lock,
             lanes,
             turn: None,
-            has_child: false,
             has_looked: false,
+            is_given_up: false,
             ended,
         }
     }
@@ -258,7 +285,6 @@ impl<'a, 'b, R: Wait, J: GatedJob + 'static> Worker<'a, 'b, R, J> {
         };
         let (ticket, seat) = found?.into_parts();
         self.turn = Some(Turn::new(ticket.number(), seat));
-        self.has_child = false;
         if ticket.held() > BRIEF {
             self.end_held_back();
         }
@@ -278,7 +304,10 @@ impl<'a, 'b, R: Wait, J: GatedJob + 'static> Worker<'a, 'b, R, J> {
             return desk.claim();
         }
         match self.desk_if_free() {
-            Some(mut desk) => desk.claim(),
+            Some(mut desk) => {
+                self.is_given_up = self.shared.is_given_up(&desk);
+                desk.claim()
+            }
             None => {
                 self.has_looked = false;
                 None
@@ -293,6 +322,14 @@ impl<'a, 'b, R: Wait, J: GatedJob + 'static> Worker<'a, 'b, R, J> {
         self.has_looked
     }
 
+    /// Whether the job was given up when the worker was last at the desk: it has no whole report any
+    /// more, and nobody asks for another one.
+    pub fn is_given_up(&self) -> bool
+        ensures { result ≡ self.now.is_given_up }
+    {
+        self.is_given_up
+    }
+
     /// Tells the book at the desk of all that has ended here, in the order in which it ended.
     fn tell(&mut self, desk: &mut LockedBook<J>)
         ensures same { (self.new.shared ≡ self.old.shared) × (self.new.lanes ≡ self.old.lanes)
@@ -301,6 +338,7 @@ impl<'a, 'b, R: Wait, J: GatedJob + 'static> Worker<'a, 'b, R, J> {
         ensures all { self.new.ended.items ≡ [] }
     {
         desk.end_all(&mut self.ended);
+        self.is_given_up = self.shared.is_given_up(desk);
     }
 
     /// Tells the book of all that has ended here.
@@ -348,28 +386,28 @@ impl<'a, 'b, R: Wait, J: GatedJob + 'static> Worker<'a, 'b, R, J> {
         ticket: Ticket,
         frames: &mut Frames,
         gate_and_observer: &GateAndObserver<'_, '_, G, HeldLock<'a, J>>,
-    ) -> Outcome
+    ) -> ObservedRun
         requires seat { (task : SeatedTask) × (self.old.turn ≡ Some task) × IsSeatOf ticket task }
         requires few { ticket.number < 2 ^ 32 }
         requires job { ticket.job ≡ J.board.job }
         requires gate { (n : ℕ) → HasHeard G.begins G.ends
             gate_and_observer.now.gate.now n → J.heard n }
-        ensures over { IsTaskOver (RanAndPaid J.runs) self.new.turn result }
-        ensures job { result.job ≡ J.board.job }
+        ensures over { IsTaskOver (RanAndPaid J.runs) self.new.turn result.outcome result.whole }
+        ensures job { result.outcome.job ≡ J.board.job }
     {
         let programs = self.shared.list();
         work_observed(alloc, ticket, programs, self, frames, gate_and_observer)
     }
 
     /// Ends the task whose turn it is, or holds its outcome back where there is room for it.
-    pub fn end(&mut self, outcome: Outcome)
-        requires over { IsTaskOver (RanAndPaid J.runs) self.old.turn outcome }
-        requires job { outcome.job ≡ J.board.job }
+    pub fn end(&mut self, run: ObservedRun)
+        requires over { IsTaskOver (RanAndPaid J.runs) self.old.turn run.outcome run.whole }
+        requires job { run.outcome.job ≡ J.board.job }
         ensures same { (self.new.shared ≡ self.old.shared) × (self.new.lanes ≡ self.old.lanes) }
-        ensures told { IsHeldBack self.old.ended.items outcome self.new.ended.items }
+        ensures told { IsHeldBack self.old.ended.items run.outcome self.new.ended.items }
     {
         let outcome = match self.turn.take() {
-            Some(turn) => SeatedOutcome::new(outcome, turn.into_parts().1),
+            Some(turn) => SeatedOutcome::new(run, turn.into_parts().1),
             None => unreachable!(),
         };
         if self.ended.len() < self.ended.capacity() {
@@ -383,24 +421,16 @@ impl<'a, 'b, R: Wait, J: GatedJob + 'static> Worker<'a, 'b, R, J> {
         self.tell_with(&mut desk, outcome);
     }
 
-    /// Puts a new task's ticket into its own lane, or parks it where there is no room for it, and
-    /// wakes a worker that sleeps. Of the children that aren't brief all but the first are parked:
-    /// they may spawn, and a worker claims one where no lane has a ticket. So few workers spawn at
-    /// once, and few tickets stand in lanes.
+    /// Puts a new task's ticket at the back of its own lane, or parks it where there is no room for
+    /// it, and wakes a worker that sleeps.
     fn keep(&mut self, desk: &mut LockedBook<J>, ticket: SeatedTicket<J>)
         requires { IsJustSpawned desk.old ticket.number }
         ensures same { (self.new.shared ≡ self.old.shared) × (self.new.turn ≡ self.old.turn)
             × (self.new.ended ≡ self.old.ended) }
         ensures kept { IsKeptBeside self.old.lanes desk.old ticket self.new.lanes desk.new }
     {
-        let is_first = !self.has_child;
-        self.has_child = true;
-        if is_first || ticket.ticket().held() <= BRIEF {
-            if let Err(back) = self.lanes.push(ticket) {
-                desk.park(back);
-            }
-        } else {
-            desk.park(ticket);
+        if let Err(back) = self.lanes.push(ticket) {
+            desk.park(back);
         }
         self.shared.bell().ring();
     }

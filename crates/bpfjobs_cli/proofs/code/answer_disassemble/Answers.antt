@@ -7,7 +7,7 @@ use Rattle.bpfjobs_cli.proofs.code.answer_disassemble.Goals as goal
 pub returns-in-Ok-disassemble : goal.returns-in-Ok-disassemble
 returns-in-Ok-disassemble c =
     let found = rw c.deref.ensures.value at c.in-Ok-disassemble.ensures.found in
-    listed c.in-Ok.bytes.items (string_bytes c.in-Ok-disassemble.lines) found.0 c.in-Ok.ensures.ok found.1 (search rules, refl)
+    listed c.in-Ok.bytes.items (string_bytes c.in-Ok-disassemble.lines) found.0 c.in-Ok.ensures.ok found.1 (search rules, refl, refl)
 
 pub returns : goal.returns
 returns c =

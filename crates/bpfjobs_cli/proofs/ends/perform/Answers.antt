@@ -7,5 +7,5 @@ returns-in-Err-clause-stopped g c =
     rw c.in-Run.is (
       c.in_ok-input-in-Run.input.items,
       c.in_ok-input-in-Run.ensures.told,
-      given_up_late c.in-Err.fault _ _ _ _ c.in_ok-answer-in-Run.answer.text.items c.in_ok-answer-in-Run.answer.status c.in_ok-input-in-Run.ensures.over answers c.in-Err.ensures.err,
+      given_up_late c.in-Err.fault _ _ _ _ c.in_ok-answer-in-Run.answer.text.items c.in_ok-answer-in-Run.answer.status c.in_ok-answer-in-Run.answer.code c.in_ok-input-in-Run.ensures.over answers c.in-Err.ensures.err,
     )

@@ -1,6 +1,6 @@
 use Rattle.std.proofs.Common.{Err, ap, refl}
-use Rattle.std.proofs.lemmas.Result.{IfErr-weaker, err_from_is_err_and}
-use Rattle.bpfjobs_cli.proofs.GivenUp.{given_up_early, given_up_late}
+use Rattle.std.proofs.lemmas.Result.{err_from_is_err_and}
+use Rattle.bpfjobs_cli.proofs.GivenUp.{given_up_early}
 use Rattle.bpfjobs_cli.proofs.ends.perform_alone.Goals as goal
 
 pub returns-in_err-input-clause-stopped : goal.returns-in_err-input-clause-stopped

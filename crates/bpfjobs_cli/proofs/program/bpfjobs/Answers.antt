@@ -12,4 +12,6 @@ returns c =
     let fourth = c.in_ok-command-4.ensures.shape c.in_ok-run.ensures.local ∙ ap₂ with_subcommand third (ap (λ (a : App). a.top) c.in_ok-run.ensures.app) in
     let fifth = c.in_ok-command-5.ensures.shape c.in_ok-serve.ensures.local ∙ ap₂ with_subcommand fourth (ap (λ (a : App). a.top) c.in_ok-serve.ensures.app) in
     let sixth = c.in_ok-command-6.ensures.shape c.in_ok-read_journal.ensures.local ∙ ap₂ with_subcommand fifth (ap (λ (a : App). a.top) c.in_ok-read_journal.ensures.app) in
-    IfOk-weaker c.subcommand-6.result _ _ (λ r h. h.shape c.in_ok-ask.ensures.local ∙ ap₂ with_subcommand sixth (ap (λ (a : App). a.top) c.in_ok-ask.ensures.app)) c.subcommand-6.ensures
+    let seventh = c.in_ok-command-7.ensures.shape c.in_ok-ask.ensures.local ∙ ap₂ with_subcommand sixth (ap (λ (a : App). a.top) c.in_ok-ask.ensures.app) in
+    let eighth = c.in_ok-command-8.ensures.shape c.in_ok-write_job.ensures.local ∙ ap₂ with_subcommand seventh (ap (λ (a : App). a.top) c.in_ok-write_job.ensures.app) in
+    IfOk-weaker c.subcommand-8.result _ _ (λ r h. h.shape c.in_ok-check_result.ensures.local ∙ ap₂ with_subcommand eighth (ap (λ (a : App). a.top) c.in_ok-check_result.ensures.app)) c.subcommand-8.ensures

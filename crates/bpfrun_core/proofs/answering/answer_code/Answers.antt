@@ -3,10 +3,10 @@ use Rattle.bpfrun_core.specs.Answered.{ran, rejected, stopped}
 use Rattle.bpfrun_core.proofs.answering.answer_code.Goals as goal
 
 pub returns-in-Ok : goal.returns-in-Ok
-returns-in-Ok c = IfOk-weaker c.tell_run.result _ _ (λ a p. ran c.in-Ok.done.r0 c.in-Ok.done.used c.in-Ok.ensures (rw c.if-is_shown.true p)) c.tell_run.ensures
+returns-in-Ok c = IfOk-weaker c.tell_run.result _ _ (λ a p. ran c.in-Ok.done.r0 c.in-Ok.done.used a.code c.in-Ok.ensures (rw c.if-is_shown.true p)) c.tell_run.ensures
 
 pub returns-in-Ok-2 : goal.returns-in-Ok-2
-returns-in-Ok-2 c = IfOk-weaker c.tell_run-in-Ok-2.result _ _ (λ a p. ran c.in-Ok.done.r0 c.in-Ok.done.used c.in-Ok.ensures (rw c.if-is_shown.false p)) c.tell_run-in-Ok-2.ensures
+returns-in-Ok-2 c = IfOk-weaker c.tell_run-in-Ok-2.result _ _ (λ a p. ran c.in-Ok.done.r0 c.in-Ok.done.used a.code c.in-Ok.ensures (rw c.if-is_shown.false p)) c.tell_run-in-Ok-2.ensures
 
 pub returns-in-Err-Program : goal.returns-in-Err-Program
 returns-in-Err-Program c =

@@ -14,7 +14,7 @@ invariant-loop-next g l = record {
   way : (registers : Registers) → RepresentsTask l.code (at_slot l.fn.frame 0) registers →
       IsUnderWay l.code (g.S.Spawner.entries l.fn.spawner) (state_of (at_slot l.fn.frame 0) l.fn.part l.fn.credit registers)
       (λ asked. GoesThrough g.S.Spawner.spawns l.fn.part.base l.fn.spawner asked l.spawner)
-      (at_slot l.frame l.slot) l.part l.credit;
+      (at_slot l.frame l.slot) l.part l.credit l.whole;
 }
 
 abbrev pub decreases-loop-next : goal.decreases-loop-next

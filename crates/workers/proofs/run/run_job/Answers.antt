@@ -5,10 +5,11 @@ use Rattle.verifier.specs.Checked.{Checked, program_of}
 use Rattle.job_core.specs.Admitted.{AdmittedJob}
 use Rattle.job_answer.specs.OneAnswer.{HasOneAnswer}
 use Rattle.job_answer.proofs.Closing.{closes}
+use Rattle.job_answer.proofs.OverLemmas.{closes_weaker}
 use Rattle.workers.specs.EndedAlone.{EndedAlone}
 use Rattle.workers.specs.Heard.{HasHeard}
 use Rattle.workers.proofs.AloneLemmas.{all_alone}
-use Rattle.workers.proofs.HeardLemmas.{all_heard, closes_weaker}
+use Rattle.workers.proofs.HeardLemmas.{all_heard}
 use Rattle.workers.proofs.run.run_job.Goals as goal
 
 pub returns-clause-alone : goal.returns-clause-alone

@@ -39,6 +39,6 @@ returns-clause-alone g c =
       ran = refl;
       alone = alone_of c.args.task.1.now ticket c.requires.verified c.requires.suffices small fits c.enter.new.self c.into_part-part.result _ entered
           c.into_part-part.ensures paid (g.S.Spawner.entries c.args.task.2.now)
-          (λ base asked. GoesThrough g.S.Spawner.spawns base c.args.task.2.now asked c.run_to_end-r0.new.spawner) _ _ _ c.run_to_end-r0.ensures.alone;
+          (λ base asked. GoesThrough g.S.Spawner.spawns base c.args.task.2.now asked c.run_to_end-r0.new.spawner) _ _ _ _ c.run_to_end-r0.ensures.alone;
       base = c.run_to_end-r0.ensures.base ∙ ap (λ (q : Piece). q.base) c.into_part-part.ensures;
     }

@@ -2,7 +2,7 @@ use Rattle.std.proofs.Common.{rules, ◌≡◌, Some, ap, subst}
 use Rattle.std.specs.BTreeMap as tree
 use Rattle.std.specs.Ordering.{nat_cmp}
 use Rattle.slab.specs.Slab as slots
-use Rattle.job_pools.specs.Endings.{IsEndOf}
+use Rattle.job_pools.specs.Endings.{IsReportedEnd}
 use Rattle.job_pools.specs.Holding.{AreKept, job_by}
 use Rattle.job_pools.proofs.Keeping.{kept_removed, others_removed, found_at, numbered}
 use Rattle.job_pools.proofs.held_jobs.HeldJobs.take.Goals as goal
@@ -30,7 +30,7 @@ returns g c =
     record {
       held = held;
       was = found_at keys jobs number key held found.0 there;
-      end = subst (λ n. IsEndOf n held.job c.join.result) (numbered keys jobs number key held kept found.0 there) c.join.ensures;
+      end = subst (λ n. IsReportedEnd n held.job c.join.result) (numbered keys jobs number key held kept found.0 there) c.join.ensures;
       changes = record {
         here = ap (job_by jobs') c.forget.ensures.gone;
         others = others_removed keys keys' jobs jobs' number key kept found.0 c.forget.ensures.others c.try_remove.ensures.updates.others;

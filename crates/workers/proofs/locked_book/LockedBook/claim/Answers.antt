@@ -1,5 +1,7 @@
 use Rattle.std.proofs.Common.{sym, subst, ◌∙◌}
 use Rattle.job_answer.specs.Agreement.{RegisterAgrees}
+use Rattle.task_register.specs.declared.seats.RegisterState.{RegisterState}
+use Rattle.workers.specs.Locked.{TellsSpawnRefusal}
 use Rattle.workers.proofs.NoRefusals.{queued_claim}
 use Rattle.workers.proofs.RegisterSteps.{claimed, seats_first, seats_more, seats_rest}
 use Rattle.workers.proofs.locked_book.LockedBook.claim.Goals as goal
@@ -27,4 +29,5 @@ invariant_of-self g c =
       some.0 ∙ inv.2,
       some.1 ∙ inv.3,
       queued_claim c.self.inside.book.history c.claim.new.self.history _ c.self.inside.book.waiting c.claim.new.self.waiting some.3 some.2 inv.4,
+      subst (λ (known : RegisterState). TellsSpawnRefusal c.self.inside.refused known.over) (sym c.claim-seat.ensures.known) inv.5,
     )

@@ -15,15 +15,18 @@ returns-in-Ok g c =
     record {
       report = final_of _ _ _ book.history c.in-Ok.report legal complete report;
       closes = record {
-        history = book.history;
-        known = c.self.inside.register.known;
-        legal = legal;
-        complete = complete;
-        report_of = report;
-        agrees = inv.0;
-        all = c.look.ensures.all;
-        first = c.look.ensures.root;
-        each = c.look.ensures.runs;
+        closed = record {
+          history = book.history;
+          known = c.self.inside.register.known;
+          legal = legal;
+          complete = complete;
+          report_of = report;
+          agrees = inv.0;
+          all = c.look.ensures.all;
+          first = c.look.ensures.root;
+          each = c.look.ensures.runs;
+        };
+        told = inv.5;
       };
       own = subst (λ (d : BookState). IsReport d.size d.history c.in-Ok.report) c.self.view_is c.in-Ok.ensures.report;
       back = tt;

@@ -11,4 +11,5 @@ invariant_of-desk g c = (
   c.requires.board,
   c.requires.size,
   rw (c.requires.none, c.requires.opened) refl,
+  rw c.requires.register (λ none. tt, λ each. refl),
 )

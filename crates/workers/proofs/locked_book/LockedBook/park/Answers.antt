@@ -14,4 +14,5 @@ invariant_of-self g c =
       done.0 ∙ inv.2,
       done.1 ∙ inv.3,
       queued_park c.self.inside.book.history c.park.new.self.history _ c.self.inside.book.waiting c.park.new.self.waiting done.4 done.2 inv.4,
+      inv.5,
     )

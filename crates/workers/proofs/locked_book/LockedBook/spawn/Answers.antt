@@ -1,7 +1,7 @@
 use Rattle.std.proofs.Common.{List, ap, sym, subst, ◌∙◌}
 use Rattle.credit_book.specs.declared.task.Ticket.{Ticket}
 use Rattle.task_register.specs.Register.{RegisterModel}
-use Rattle.workers.specs.Locked.{AreSeats, IsJustSpawned}
+use Rattle.workers.specs.Locked.{AreSeats, IsJustSpawned, TellsSpawnRefusal}
 use Rattle.workers.proofs.NoRefusals.{just_spawned, queued_spawn}
 use Rattle.workers.proofs.RegisterSteps.{spawned}
 use Rattle.workers.proofs.locked_book.LockedBook.spawn.Goals as goal
@@ -18,6 +18,7 @@ invariant_of-self g c =
       done.0 ∙ inv.2,
       done.1 ∙ inv.3,
       queued_spawn c.self.inside.book.history c.spawn.new.self.history c.args.parent _ c.args.child c.self.inside.book.waiting c.spawn.new.self.waiting done.4 done.2 inv.4,
+      subst (λ (r : RegisterModel). TellsSpawnRefusal c.self.inside.refused r.known.over) (sym register) inv.5,
     )
 
 pub returns-in-Ok-clause-fresh : goal.returns-in-Ok-clause-fresh

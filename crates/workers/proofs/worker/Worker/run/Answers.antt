@@ -26,8 +26,8 @@ work_observed-requires-lives-G-RunObserver-3 g c κs within = rw (empty g.row.J.
 pub returns-clause-over : goal.returns-clause-over
 returns-clause-over g c =
     let seat = c.requires.seat in
-    settled_heard g.J.JobId.runs g.J.GatedJob.heard c.work_observed.new.spawner.turn c.work_observed.result c.args.ticket.number
-    (number_is c.list-programs.result.now c.args.ticket _ _ c.work_observed.result c.work_observed.ensures.outcome)
+    settled_heard g.J.JobId.runs g.J.GatedJob.heard c.work_observed.new.spawner.turn c.work_observed.result.outcome c.work_observed.result.whole c.args.ticket.number
+    (number_is c.list-programs.result.now c.args.ticket _ _ c.work_observed.result.outcome _ c.work_observed.ensures.outcome)
     (λ ran. let h = c.work_observed.ensures.heard ran in c.requires.gate c.args.ticket.number (record { begun = h.begun; ended = h.ended }))
     (is_over c.args.self.now c.work_observed.new.spawner (λ s. s.turn)
     (λ old child reply new. MatchResult reply
@@ -38,8 +38,8 @@ returns-clause-over g c =
       refused = λ old new child back same. ap (λ s. task_in s.turn) same;
     })
     c.list-programs.result.now (λ o. (o.ran ≡ true → g.J.GatedJob.heard o.own.number) → RanAndPaid g.J.JobId.runs o)
-    (λ o over told. (c.list-programs.ensures.runs o over told, paid_for (map program_of c.list-programs.result.now) o over)) c.args.ticket seat.0 seat.1 seat.2 c.requires.few c.work_observed.result
+    (λ o over told. (c.list-programs.ensures.runs o over told, paid_for (map program_of c.list-programs.result.now) o over)) c.args.ticket seat.0 seat.1 seat.2 c.requires.few c.work_observed.result.outcome c.work_observed.result.whole
     c.work_observed.ensures.outcome)
 
 pub returns-clause-job : goal.returns-clause-job
-returns-clause-job g c = job_is c.list-programs.result.now c.args.ticket _ _ c.work_observed.result c.work_observed.ensures.outcome ∙ c.requires.job
+returns-clause-job g c = job_is c.list-programs.result.now c.args.ticket _ _ c.work_observed.result.outcome _ c.work_observed.ensures.outcome ∙ c.requires.job

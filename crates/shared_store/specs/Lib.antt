@@ -1,0 +1,4 @@
+pub mod Rules
+pub mod Faults
+pub mod Keeping
+pub mod Sharing
