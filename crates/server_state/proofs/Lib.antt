@@ -1,0 +1,5 @@
+mod ListLemmas
+mod PartLemmas
+mod DeskLemmas
+mod HomeLemmas
+mod AloneLemmas

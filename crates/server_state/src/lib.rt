@@ -4,7 +4,9 @@
 mod access;
 mod job_id;
 mod jobs;
+mod laws;
 
 pub use access::Access;
 pub use job_id::JobId;
 pub use jobs::{Jobs, RefusedStart};
+pub use laws::each_tenant_is_alone;
