@@ -5,3 +5,4 @@ pub mod Desks
 pub mod Answering
 pub mod Histories
 pub mod Alone
+pub mod Changing
