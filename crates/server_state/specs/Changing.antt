@@ -56,20 +56,36 @@ pub data LeadAll (old : List DeskState) : List Change → List DeskState → Typ
 abbrev pub desk_with : Ledger → List KeyedJob → DeskState
 desk_with ledger keys = record { ledger = ledger; keys = keys }
 
+-- the change at a place makes the one ledger of the other, with these keyed jobs, whatever keys were
+-- remembered
+abbrev pub MakesAt : ℕ → Change → Ledger → Ledger → List KeyedJob → Type 0
+MakesAt place c old new keyed =
+    (desk_of c ≡ place)
+    × ((keys : List KeyedJob) → Makes c (desk_with old keys) (desk_with new (noted_each keys keyed)))
+
 module _ {C : Type 0} (g : Ghosts C) where
-  -- What was added while the ledger at a place changed, with these keyed jobs, leads from the one to
-  -- the other, whatever keys were remembered; unless a change is missing.
-  pub record Records (place : ℕ) (before after : C) (old new : Ledger) (keyed : List KeyedJob) :
-      Type 0 where
+  -- What was added leads from one ledger of the desk at a place to another, with these keyed jobs,
+  -- whatever keys were remembered.
+  pub record AddsChanges (place : ℕ) (before after : C) (old new : Ledger)
+      (keyed : List KeyedJob) : Type 0 where
     pub changes : List Change
     pub leads : (keys : List KeyedJob)
         → Leads place (desk_with old keys) changes (desk_with new (noted_each keys keyed))
-    pub sound : g.sound after ≡ true → g.sound before ≡ true
-    pub added : g.sound after ≡ true → g.added after ≡ g.added before ++ changes
+    pub added : g.added after ≡ g.added before ++ changes
 
-  -- the same of all desks
-  pub record RecordsAll (before after : C) (old new : List DeskState) : Type 0 where
+  -- The same, unless a change is missing.
+  pub record Records (place : ℕ) (before after : C) (old new : Ledger) (keyed : List KeyedJob) :
+      Type 0 where
+    pub sound : g.sound after ≡ true → g.sound before ≡ true
+    pub adds : g.sound after ≡ true → AddsChanges place before after old new keyed
+
+  -- What was added leads from these desks to those.
+  pub record AddsAll (before after : C) (old new : List DeskState) : Type 0 where
     pub changes : List Change
     pub lead : LeadAll old changes new
+    pub added : g.added after ≡ g.added before ++ changes
+
+  -- The same, unless a change is missing.
+  pub record RecordsAll (before after : C) (old new : List DeskState) : Type 0 where
     pub sound : g.sound after ≡ true → g.sound before ≡ true
-    pub added : g.sound after ≡ true → g.added after ≡ g.added before ++ changes
+    pub adds : g.sound after ≡ true → AddsAll before after old new

@@ -1,0 +1,4 @@
+mod Made
+mod Recorded
+mod Settled
+mod Starts
