@@ -1,4 +1,5 @@
 mod Made
 mod Recorded
+mod Replied
 mod Settled
 mod Starts
