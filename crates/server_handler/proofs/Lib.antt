@@ -1,3 +1,4 @@
+mod Among
 mod Made
 mod Recorded
 mod Replied

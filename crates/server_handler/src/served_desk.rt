@@ -15,9 +15,11 @@ use crate::desk_jobs::DeskJobs;
 use crate::desk_query::DeskQuery;
 use crate::key_table::KeyTable;
 use crate::recorded_answers::{keep_recorded, reply_recorded};
+use crate::recorded_ends::end_job;
 use accounts::{Desk, KeepLimits};
+use credit_book::Report;
 use refusal::NoMemory;
-use server_state::{Changes, Jobs};
+use server_state::{Changes, JobId, Jobs};
 use sessions::{JobKey, KeyedJobs, Reply};
 use std::alloc::Global;
 use std::marker::Model;
@@ -46,6 +48,8 @@ impl Model for ServedDesk {
 
 impl ServedDesk {
     ghost use Rattle.std.specs.Prelude.{◌≡◌, IfOk};
+    ghost use Rattle.server_state.specs.Answering.{NotesEnd};
+    ghost use Rattle.server_handler.specs.DeskAnswers.{RecordsAt};
 
     /// A desk with these keyed jobs. Refused where there is no memory for all that it remembers.
     pub fn new(ledger: Desk, keys: KeyedJobs) -> Result<ServedDesk, NoMemory>
@@ -55,6 +59,20 @@ impl ServedDesk {
             ledger,
             keys: KeyTable::of(keys)?,
         })
+    }
+
+    /// Notes the end of a job, and adds that. The end of a job that is not open is passed over.
+    pub(crate) fn end<C: Changes>(
+        &mut self,
+        alloc: Global,
+        changes: &mut C,
+        id: JobId,
+        outcome: Result<Report, u8>,
+    )
+        ensures noted { NotesEnd id.number outcome self.old self.new }
+        ensures records { RecordsAt C.Changes id.desk changes.old changes.new self.old self.new }
+    {
+        end_job(alloc, &mut self.ledger, changes, id, outcome);
     }
 
     /// Its accounts and jobs.

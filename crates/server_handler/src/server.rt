@@ -1,16 +1,16 @@
 //! A server's desks and the runner of all jobs, and what they answer.
 
-ghost use Rattle.std.specs.Prelude.{◌≡◌, ◌≤◌, ◌+◌, List, length, map, string_bytes};
+ghost use Rattle.std.specs.Prelude.{◌≡◌, ◌≤◌, ◌+◌, ℕ, List, Result, length, map, string_bytes};
 ghost use Rattle.credit_book.specs.declared.book.Report.{Report};
 ghost use Rattle.server_state.specs.declared.job_id.JobId.{JobId};
-ghost use Rattle.server_state.specs.Answering.{Answers, Collects, Ends};
+ghost use Rattle.server_state.specs.Answering.{Answers, Collects};
 ghost use Rattle.server_state.specs.Changing.{RecordsAll};
 ghost use Rattle.server_state.specs.States.{ServerState, steps_of};
 ghost use Rattle.server_handler.specs.DeskAnswers.{IsReply, query_asked};
+ghost use Rattle.server_handler.specs.Serving.{NotesAmong};
 
 use crate::desk_jobs::DeskJobs;
 use crate::desk_query::DeskQuery;
-use crate::recorded_ends::end_job;
 use crate::routing::{desk_for, desk_query};
 use crate::served_desk::{DeskReply, ServedDesk, answer_query, refuse};
 use accounts::KeepLimits;
@@ -18,6 +18,7 @@ use credit_book::Report;
 use job_core::Job;
 use server_state::{Access, Changes, JobId, Jobs};
 use std::alloc::Global;
+use std::collections::VecDeque;
 use std::marker::Model;
 
 /// An open job of an earlier run that is not begun again yet.
@@ -36,12 +37,14 @@ pub struct Server<N> {
     names: Vec<String>,
     keep: KeepLimits,
     desks: Vec<ServedDesk>,
+    waiting: VecDeque<WaitingJob>,
     runner: DeskJobs<N>,
 }
 
 impl<N> Model for Server<N> {
-    ghost use Rattle.std.specs.Prelude.{◌≡◌, ◌≤◌, ◌+◌, [], length, map, string_bytes};
+    ghost use Rattle.std.specs.Prelude.{◌≡◌, ◌≤◌, ◌+◌, length, map, string_bytes};
     ghost use Rattle.server_state.specs.States.{ServerState};
+    ghost use Rattle.server_handler.specs.Serving.{waiting_job};
 
     ghost Value = { ServerState N };
 
@@ -49,10 +52,160 @@ impl<N> Model for Server<N> {
       names = map string_bytes s.names.items;
       keep = s.keep;
       desks = s.desks.items;
-      waiting = [];
+      waiting = map waiting_job s.waiting.items;
       jobs = s.runner.jobs;
     } };
 
     ghost invariant = { λ s. (length s.desks.items ≡ length s.names.items + 1)
         × (length s.names.items ≤ 65535) };
+}
+
+// Notes the end of a job at its desk, and adds that.
+fn note_end<C: Changes>(
+    alloc: Global,
+    desks: &mut Vec<ServedDesk>,
+    changes: &mut C,
+    id: JobId,
+    outcome: Result<Report, u8>,
+)
+    ensures noted { NotesAmong desks.old.items id outcome desks.new.items }
+    ensures records { RecordsAll C.Changes changes.old changes.new desks.old.items desks.new.items }
+    ensures count { length desks.new.items ≡ length desks.old.items }
+{
+    let place = usize::from(id.desk);
+    if place >= desks.len() {
+        return;
+    }
+    desks[place].end(alloc, changes, id, outcome);
+}
+
+// Takes each job that is over from the runner, and notes its end at its desk.
+fn collect_ends<N: Jobs, C: Changes>(
+    alloc: Global,
+    desks: &mut Vec<ServedDesk>,
+    jobs: &mut N,
+    changes: &mut C,
+)
+    requires { N.ready jobs.old }
+    ensures ready { N.ready jobs.new }
+    ensures collected { (s : ServerState N) → (ends : List (JobId × Result Report ℕ))
+        × Collects (steps_of N.Jobs) (record s { desks = desks.old.items; jobs = jobs.old }) ends
+        (record s { desks = desks.new.items; jobs = jobs.new }) }
+    ensures records { RecordsAll C.Changes changes.old changes.new desks.old.items desks.new.items }
+    ensures count { length desks.new.items ≡ length desks.old.items }
+{
+    'jobs: loop {
+        match jobs.take() {
+            Some((id, outcome)) => note_end(alloc, desks, changes, id, outcome),
+            None => return,
+        }
+    }
+}
+
+// Answers a query at the desk that it goes to.
+fn answer_among<N: Jobs, C: Changes>(
+    alloc: Global,
+    names: &[String],
+    keep: KeepLimits,
+    desks: &mut Vec<ServedDesk>,
+    runner: &mut DeskJobs<N>,
+    changes: &mut C,
+    access: Access,
+    query: DeskQuery,
+) -> DeskReply
+    requires ready { N.ready runner.old.jobs }
+    requires names { length names.now ≤ 65535 }
+    requires desks { length desks.old.items ≡ length names.now + 1 }
+    ensures ready { N.ready runner.new.jobs }
+    ensures replies { (s : ServerState N) → s.names ≡ map string_bytes names.now → s.keep ≡ keep
+        → IsReply result.1 (λ frame. Answers (steps_of N.Jobs)
+        (record s { desks = desks.old.items; jobs = runner.old.jobs }) access (query_asked query)
+        frame (record s { desks = desks.new.items; jobs = runner.new.jobs })) }
+    ensures records { RecordsAll C.Changes changes.old changes.new desks.old.items desks.new.items }
+    ensures count { length desks.new.items ≡ length desks.old.items }
+{
+    let place = match desk_for(names, access, &query) {
+        Ok(place) => place,
+        Err(code) => return refuse(alloc, code),
+    };
+    let query = desk_query(names, access, query);
+    runner.desk = place as u16;
+    answer_query(alloc, &mut desks[place], runner, changes, keep, query)
+}
+
+impl<N: Jobs> Server<N> {
+    ghost use Rattle.std.specs.Prelude.{◌≡◌, ◌≤◌, ◌+◌, ℕ, List, Result, length, map, string_bytes};
+    ghost use Rattle.credit_book.specs.declared.book.Report.{Report};
+    ghost use Rattle.server_state.specs.declared.job_id.JobId.{JobId};
+    ghost use Rattle.server_state.specs.Answering.{Answers, Collects};
+    ghost use Rattle.server_state.specs.Changing.{RecordsAll};
+    ghost use Rattle.server_state.specs.States.{steps_of};
+    ghost use Rattle.server_handler.specs.DeskAnswers.{IsReply, query_asked};
+    ghost use Rattle.server_handler.specs.Serving.{waiting_job};
+
+    /// A server of these desks: first that of every tenant without one of its own, and behind it one
+    /// for each of these names.
+    pub fn new(
+        names: Vec<String>,
+        keep: KeepLimits,
+        desks: Vec<ServedDesk>,
+        waiting: VecDeque<WaitingJob>,
+        jobs: N,
+    ) -> Server<N>
+        requires names { length names.items ≤ 65535 }
+        requires desks { length desks.items ≡ length names.items + 1 }
+        ensures { result ≡ record {
+          names = map string_bytes names.items;
+          keep = keep;
+          desks = desks.items;
+          waiting = map waiting_job waiting.items;
+          jobs = jobs;
+        } }
+    {
+        Server {
+            names,
+            keep,
+            desks,
+            waiting,
+            runner: DeskJobs { jobs, desk: 0 },
+        }
+    }
+
+    /// Takes each job that is over from the runner, and notes its end at its desk. What changes is
+    /// added.
+    pub fn collect<C: Changes>(&mut self, alloc: Global, changes: &mut C)
+        requires { N.ready self.old.jobs }
+        ensures ready { N.ready self.new.jobs }
+        ensures collected { (ends : List (JobId × Result Report ℕ))
+            × Collects (steps_of N.Jobs) self.old ends self.new }
+        ensures records { RecordsAll C.Changes changes.old changes.new self.old.desks self.new.desks }
+    {
+        collect_ends(alloc, &mut self.desks, &mut self.runner.jobs, changes);
+    }
+
+    /// The answer to a query of a connection with this access. What changes is added.
+    pub fn answer<C: Changes>(
+        &mut self,
+        alloc: Global,
+        changes: &mut C,
+        access: Access,
+        query: DeskQuery,
+    ) -> DeskReply
+        requires { N.ready self.old.jobs }
+        ensures ready { N.ready self.new.jobs }
+        ensures replies { IsReply result.1 (λ frame. Answers (steps_of N.Jobs) self.old access
+            (query_asked query) frame self.new) }
+        ensures records { RecordsAll C.Changes changes.old changes.new self.old.desks self.new.desks }
+    {
+        answer_among(
+            alloc,
+            &self.names,
+            self.keep,
+            &mut self.desks,
+            &mut self.runner,
+            changes,
+            access,
+            query,
+        )
+    }
 }
