@@ -4,3 +4,4 @@ mod Recorded
 mod Replied
 mod Settled
 mod Starts
+mod Waiting

@@ -1,13 +1,13 @@
 //! A server's desks and the runner of all jobs, and what they answer.
 
-ghost use Rattle.std.specs.Prelude.{◌≡◌, ◌≤◌, ◌+◌, ℕ, List, Result, length, map, string_bytes};
+ghost use Rattle.std.specs.Prelude.{◌≡◌, ◌≤◌, ◌+◌, ℕ, List, [], Result, false, length, map, string_bytes};
 ghost use Rattle.credit_book.specs.declared.book.Report.{Report};
 ghost use Rattle.server_state.specs.declared.job_id.JobId.{JobId};
 ghost use Rattle.server_state.specs.Answering.{Answers, Collects};
 ghost use Rattle.server_state.specs.Changing.{RecordsAll};
 ghost use Rattle.server_state.specs.States.{ServerState, steps_of};
 ghost use Rattle.server_handler.specs.DeskAnswers.{IsReply, query_asked};
-ghost use Rattle.server_handler.specs.Serving.{NotesAmong};
+ghost use Rattle.server_handler.specs.Serving.{BeginsOr, NotesAmong, waiting_job};
 
 use crate::desk_jobs::DeskJobs;
 use crate::desk_query::DeskQuery;
@@ -133,15 +133,42 @@ fn answer_among<N: Jobs, C: Changes>(
     answer_query(alloc, &mut desks[place], runner, changes, keep, query)
 }
 
+// Starts the first job that waits. A job that is refused waits behind the others.
+fn begin_first<N: Jobs>(alloc: Global, waiting: &mut VecDeque<WaitingJob>, jobs: &mut N) -> bool
+    requires { N.ready jobs.old }
+    ensures ready { N.ready jobs.new }
+    ensures none { waiting.old.items ≡ [] → (waiting.new.items ≡ []) × (jobs.new ≡ jobs.old)
+        × (result ≡ false) }
+    ensures begun { (s : ServerState N) → (waiting.old.items ≡ [] → ⊥)
+        → BeginsOr result (steps_of N.Jobs)
+        (record s { waiting = map waiting_job waiting.old.items; jobs = jobs.old })
+        (record s { waiting = map waiting_job waiting.new.items; jobs = jobs.new }) }
+{
+    let Some(first) = waiting.pop_front() else {
+        return false;
+    };
+    let WaitingJob { id, job } = first;
+    match jobs.start(alloc, id, job) {
+        Ok(()) => true,
+        Err(refused) => {
+            waiting.push_back_reserved(WaitingJob {
+                id,
+                job: refused.job,
+            });
+            false
+        }
+    }
+}
+
 impl<N: Jobs> Server<N> {
-    ghost use Rattle.std.specs.Prelude.{◌≡◌, ◌≤◌, ◌+◌, ℕ, List, Result, length, map, string_bytes};
+    ghost use Rattle.std.specs.Prelude.{◌≡◌, ◌≤◌, ◌+◌, ℕ, List, [], Result, false, length, map, string_bytes};
     ghost use Rattle.credit_book.specs.declared.book.Report.{Report};
     ghost use Rattle.server_state.specs.declared.job_id.JobId.{JobId};
     ghost use Rattle.server_state.specs.Answering.{Answers, Collects};
     ghost use Rattle.server_state.specs.Changing.{RecordsAll};
     ghost use Rattle.server_state.specs.States.{steps_of};
     ghost use Rattle.server_handler.specs.DeskAnswers.{IsReply, query_asked};
-    ghost use Rattle.server_handler.specs.Serving.{waiting_job};
+    ghost use Rattle.server_handler.specs.Serving.{BeginsOr, waiting_job};
 
     /// A server of these desks: first that of every tenant without one of its own, and behind it one
     /// for each of these names.
@@ -207,5 +234,17 @@ impl<N: Jobs> Server<N> {
             access,
             query,
         )
+    }
+
+    /// Starts the first job of an earlier run that waits, and returns whether it was started. A job
+    /// that is refused waits behind the others.
+    pub fn begin_waiting(&mut self, alloc: Global) -> bool
+        requires { N.ready self.old.jobs }
+        ensures ready { N.ready self.new.jobs }
+        ensures none { self.old.waiting ≡ [] → (self.new ≡ self.old) × (result ≡ false) }
+        ensures begun { (self.old.waiting ≡ [] → ⊥)
+            → BeginsOr result (steps_of N.Jobs) self.old self.new }
+    {
+        begin_first(alloc, &mut self.waiting, &mut self.runner.jobs)
     }
 }
