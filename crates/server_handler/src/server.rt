@@ -11,15 +11,18 @@ ghost use Rattle.server_handler.specs.Serving.{BeginsOr, NotesAmong, waiting_job
 
 use crate::desk_jobs::DeskJobs;
 use crate::desk_query::DeskQuery;
-use crate::routing::{desk_for, desk_query};
+use crate::own_names::{own_name_of, own_named};
+use crate::routing::{desk_for, desk_query, tenant_place};
 use crate::served_desk::{DeskReply, ServedDesk, answer_query, refuse};
 use accounts::KeepLimits;
 use credit_book::Report;
 use job_core::Job;
 use server_state::{Access, Changes, JobId, Jobs};
+use sessions::Request;
 use std::alloc::Global;
 use std::collections::VecDeque;
 use std::marker::Model;
+use streams::{PreparedRequest, covers_credit};
 
 /// An open job of an earlier run that is not begun again yet.
 #[derive(Drop)]
@@ -31,9 +34,9 @@ pub struct WaitingJob {
 /// The desks of a server, and the runner of all jobs.
 ///
 /// The first desk belongs to every tenant that has none of its own; behind it stands one desk for
-/// each name. Contracts see the state of the server.
+/// each name. The runner may be called. Contracts see the state of the server.
 #[derive(Drop)]
-pub struct Server<N> {
+pub struct Server<N: Jobs> {
     names: Vec<String>,
     keep: KeepLimits,
     desks: Vec<ServedDesk>,
@@ -41,7 +44,7 @@ pub struct Server<N> {
     runner: DeskJobs<N>,
 }
 
-impl<N> Model for Server<N> {
+impl<N: Jobs> Model for Server<N> {
     ghost use Rattle.std.specs.Prelude.{◌≡◌, ◌≤◌, ◌+◌, length, map, string_bytes};
     ghost use Rattle.server_state.specs.States.{ServerState};
     ghost use Rattle.server_handler.specs.Serving.{waiting_job};
@@ -57,7 +60,7 @@ impl<N> Model for Server<N> {
     } };
 
     ghost invariant = { λ s. (length s.desks.items ≡ length s.names.items + 1)
-        × (length s.names.items ≤ 65535) };
+        × (length s.names.items ≤ 65535) × N.ready s.runner.jobs };
 }
 
 // Notes the end of a job at its desk, and adds that.
@@ -168,6 +171,8 @@ impl<N: Jobs> Server<N> {
     ghost use Rattle.server_state.specs.Changing.{RecordsAll};
     ghost use Rattle.server_state.specs.States.{steps_of};
     ghost use Rattle.server_handler.specs.DeskAnswers.{IsReply, query_asked};
+    ghost use Rattle.streams.specs.Prepared.{asked_of};
+    ghost use Rattle.server_handler.specs.Naming.{IsOwnNamed};
     ghost use Rattle.server_handler.specs.Serving.{BeginsOr, waiting_job};
 
     /// A server of these desks: first that of every tenant without one of its own, and behind it one
@@ -179,6 +184,7 @@ impl<N: Jobs> Server<N> {
         waiting: VecDeque<WaitingJob>,
         jobs: N,
     ) -> Server<N>
+        requires ready { N.ready jobs }
         requires names { length names.items ≤ 65535 }
         requires desks { length desks.items ≡ length names.items + 1 }
         ensures { result ≡ record {
@@ -201,8 +207,6 @@ impl<N: Jobs> Server<N> {
     /// Takes each job that is over from the runner, and notes its end at its desk. What changes is
     /// added.
     pub fn collect<C: Changes>(&mut self, alloc: Global, changes: &mut C)
-        requires { N.ready self.old.jobs }
-        ensures ready { N.ready self.new.jobs }
         ensures collected { (ends : List (JobId × Result Report ℕ))
             × Collects (steps_of N.Jobs) self.old ends self.new }
         ensures records { RecordsAll C.Changes changes.old changes.new self.old.desks self.new.desks }
@@ -218,8 +222,6 @@ impl<N: Jobs> Server<N> {
         access: Access,
         query: DeskQuery,
     ) -> DeskReply
-        requires { N.ready self.old.jobs }
-        ensures ready { N.ready self.new.jobs }
         ensures replies { IsReply result.1 (λ frame. Answers (steps_of N.Jobs) self.old access
             (query_asked query) frame self.new) }
         ensures records { RecordsAll C.Changes changes.old changes.new self.old.desks self.new.desks }
@@ -236,11 +238,39 @@ impl<N: Jobs> Server<N> {
         )
     }
 
+    /// A request, by the name of the connection's own tenant where it leaves the name out. Without
+    /// memory for that name it is refused by 99.
+    pub fn own_named(
+        &self,
+        alloc: Global,
+        access: Access,
+        request: PreparedRequest,
+    ) -> PreparedRequest
+        ensures { IsOwnNamed self.now.names access (asked_of request) (asked_of result) }
+    {
+        own_named(alloc, &self.names, access, request)
+    }
+
+    /// Whether it is worth to admit the job of this request ahead of the answer: whether the balance
+    /// of its tenant covers its credit.
+    pub fn wants_admission(&self, access: Access, request: &Request) -> bool {
+        match request {
+            Request::Submit { tenant, credit, .. } => {
+                let name = if tenant.is_empty() {
+                    own_name_of(&self.names, access)
+                } else {
+                    tenant.as_str()
+                };
+                let place = tenant_place(&self.names, name);
+                covers_credit(self.desks[place].ledger(), name, *credit)
+            }
+            _ => false,
+        }
+    }
+
     /// Starts the first job of an earlier run that waits, and returns whether it was started. A job
     /// that is refused waits behind the others.
     pub fn begin_waiting(&mut self, alloc: Global) -> bool
-        requires { N.ready self.old.jobs }
-        ensures ready { N.ready self.new.jobs }
         ensures none { self.old.waiting ≡ [] → (self.new ≡ self.old) × (result ≡ false) }
         ensures begun { (self.old.waiting ≡ [] → ⊥)
             → BeginsOr result (steps_of N.Jobs) self.old self.new }
