@@ -3,3 +3,5 @@ mod PartLemmas
 mod DeskLemmas
 mod HomeLemmas
 mod AloneLemmas
+mod OneDesk
+mod KeyedLemmas

@@ -6,3 +6,4 @@ pub mod Answering
 pub mod Histories
 pub mod Alone
 pub mod Changing
+pub mod Keyed
