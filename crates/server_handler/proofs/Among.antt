@@ -1,8 +1,7 @@
 -- One desk among others: what it answers, and what is added, for the whole server.
-use Rattle.std.proofs.Common.{◌≡◌, ◌⊎◌, ◌≤◌, ◌<◌, ℕ, zero, suc, List, [], ◌∷◌, ◌++◌, append_assoc, append-nil, length, slice_get, slice_set, true, Option, Some, Result, IfOk, refl, sym, ap, subst, ◌∙◌, inl, inr}
+use Rattle.std.proofs.Common.{◌≡◌, ℕ, zero, suc, List, [], ◌∷◌, ◌++◌, append_assoc, append-nil, slice_get, slice_set, Some, Result, IfOk, refl, sym, ap, subst, ◌∙◌, inl, inr}
 use Rattle.refusal.specs.declared.NoMemory.{NoMemory}
 use Rattle.credit_book.specs.declared.book.Report.{Report}
-use Rattle.accounts.specs.declared.keep_limits.KeepLimits.{KeepLimits}
 use Rattle.server_state.specs.Answering.{Answers, AnswersAt, Ends}
 use Rattle.server_state.specs.Changing.{AddsAll, LeadAll, Leads, Makes, RecordsAll, desk_of, no_change, one_change}
 use Rattle.server_state.specs.Changing as changing

@@ -1,5 +1,5 @@
 -- A desk's reply by the runner of all jobs for that desk.
-use Rattle.std.proofs.Common.{◌≡◌, ◌+◌, ◌<◌, ℕ, List, [], length, nat_lt, if◌then◌else◌, Bool, true, false, Option, None, Some, Result, Ok, Err, IfOk, refl, sym, ap, subst, ◌∙◌, inl, inr, arith, append-nil}
+use Rattle.std.proofs.Common.{◌≡◌, ◌<◌, ℕ, List, [], length, nat_lt, if◌then◌else◌, Bool, true, false, Option, None, Some, Result, Ok, Err, IfOk, refl, sym, ap, subst, ◌∙◌, inl, inr, arith, append-nil}
 use Rattle.std.proofs.lemmas.Bool.Decides.{nat_tests}
 use Rattle.refusal.specs.declared.NoMemory.{NoMemory}
 use Rattle.job_core.specs.declared.admission.ProgramBytes.{ProgramBytes}
@@ -12,13 +12,12 @@ use Rattle.sessions.specs.Replies.{frame_of, reply_data}
 use Rattle.sessions.specs.declared.job_key.KeyedJob.{KeyedJob}
 use Rattle.streams.specs.Answering as plainly
 use Rattle.streams.specs.Answering.{Framed}
-use Rattle.server_state.specs.Changing.{AddsChanges, Leads, Records, desk_with, last_keyed, no_change, noted_each}
+use Rattle.server_state.specs.Changing.{Leads, Records, desk_with, last_keyed, no_change, noted_each}
 use Rattle.server_state.specs.Desks.{Replies, RepliesByKey, jobs_frame, keys_behind, looks_at, refusal_frame, starts_at, submit_frame}
 use Rattle.server_state.specs.Queries.{plain, keyed, jobs}
 use Rattle.server_state.specs.States.{DeskState, JobsSteps}
-use Rattle.server_state.specs.declared.change.Change.{Change}
 use Rattle.server_state.specs.declared.change.Changes.{Ghosts}
-use Rattle.server_handler.specs.DeskAnswers.{AddsAt, IsReply, LedgerReplies, RecordsAt, desk_looks, desk_starts}
+use Rattle.server_handler.specs.DeskAnswers.{IsReply, LedgerReplies, RecordsAt, desk_looks, desk_starts}
 use Rattle.server_handler.specs.Recording.{keyed_taken}
 use Rattle.server_handler.specs.declared.desk_jobs.DeskJobs.{DeskJobs}
 

@@ -1,5 +1,5 @@
 -- Answers at one desk of a server.
-use Rattle.std.specs.Prelude.{◌≡◌, ◌++◌, ℕ, List, MatchResult, Option, Result, Ok, Err, true}
+use Rattle.std.specs.Prelude.{◌≡◌, ◌++◌, ℕ, List, MatchResult, Result, Ok, Err, true}
 use Rattle.refusal.specs.declared.NoMemory.{NoMemory}
 use Rattle.job_core.specs.Admitted.{AdmittedJob}
 use Rattle.credit_book.specs.declared.board.Progress.{Progress}

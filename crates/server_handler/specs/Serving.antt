@@ -1,5 +1,5 @@
 -- The desks of a server, as its handler has them.
-use Rattle.std.specs.Prelude.{◌≡◌, ◌⊎◌, ◌≤◌, ℕ, Bool, List, is_ok, length, map, slice_get, slice_set, Some, Option, Result}
+use Rattle.std.specs.Prelude.{◌≡◌, ◌⊎◌, ◌≤◌, ℕ, Bool, List, is_ok, length, slice_get, slice_set, Some, Result}
 use Rattle.credit_book.specs.declared.book.Report.{Report}
 use Rattle.job_core.specs.Admitted.{AdmittedJob}
 use Rattle.server_state.specs.declared.job_id.JobId.{JobId}

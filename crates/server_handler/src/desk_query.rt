@@ -14,5 +14,7 @@ pub enum DeskQuery {
         submit: PreparedRequest,
     },
     /// The jobs of the connection's own desk, from a number on.
-    Jobs { from: u64 },
+    Jobs {
+        from: u64,
+    },
 }

@@ -13,12 +13,12 @@ mod desk_query;
 mod key_table;
 mod own_names;
 mod routing;
-mod server;
 mod served_desk;
+mod server;
 mod shared_server;
 
 pub use desk_jobs::DeskJobs;
 pub use desk_query::DeskQuery;
-pub use server::{Server, WaitingJob};
 pub use served_desk::{DeskReply, ServedDesk};
+pub use server::{Server, WaitingJob};
 pub use shared_server::{ServerHandler, access_of};

@@ -1,16 +1,15 @@
 -- After every history, a desk's part is a history of a server that has this desk alone.
-use Rattle.std.proofs.Common.{◌≡◌, ◌≢◌, ◌⊎◌, ◌≤◌, ◌==◌, ℕ, false, List, [], ◌∷◌, ◌++◌, length, slice_get, Option, Some, None, Result, Ok, Err, refl, sym, ap, subst, ◌∙◌, inl, inr, arith}
-use Rattle.job_core.specs.Admitted.{AdmittedJob}
+use Rattle.std.proofs.Common.{◌≡◌, ◌≢◌, ◌⊎◌, ◌≤◌, ◌==◌, ℕ, false, List, [], ◌∷◌, ◌++◌, length, slice_get, Some, Result, Ok, Err, refl, sym, ap, subst, ◌∙◌, inl, inr, arith}
 use Rattle.credit_book.specs.declared.book.Report.{Report}
 use Rattle.accounts.specs.declared.keep_limits.KeepLimits.{KeepLimits}
 use Rattle.server_state.specs.declared.access.Access.{Access}
 use Rattle.server_state.specs.declared.job_id.JobId.{JobId}
-use Rattle.server_state.specs.States.{DeskState, ServerState, JobsSteps, id_at, starting_to, with_jobs}
+use Rattle.server_state.specs.States.{DeskState, ServerState, JobsSteps, starting_to, with_jobs}
 use Rattle.server_state.specs.Queries.{Query, Destination, desk_at, server_itself, refused_by, goes, desk_query}
 use Rattle.server_state.specs.Desks.{Replies}
 use Rattle.server_state.specs.Answering.{Answers, AnswersAt, Begins, ChangesAt, Ends, NotesEnd, waiting_behind}
 use Rattle.server_state.specs.Histories.{Event, was_asked, has_ended, Happens, none_yet, one_asked, one_ended, one_begun, none_ended}
-use Rattle.server_state.specs.Alone.{Others, no_step, one_start, one_look, one_end, no_end, alone, one_desk, part_of, is_of, is_desk_at, job_at_home, waiting_of, HasServerAlone}
+use Rattle.server_state.specs.Alone.{Others, no_step, one_start, one_end, no_end, alone, one_desk, part_of, is_of, is_desk_at, job_at_home, waiting_of, HasServerAlone}
 use Rattle.server_state.proofs.DeskLemmas.{replies_alone, replies_apart}
 use Rattle.server_state.proofs.HomeLemmas.{goes_home, home_of, query_home}
 use Rattle.server_state.proofs.ListLemmas.{same_or_not, set_here, set_apart, some_same, within}

@@ -1,5 +1,5 @@
 -- One key, one job, at a server that has one desk.
-use Rattle.std.proofs.Common.{◌≡◌, ◌⊎◌, ◌≤◌, ◌+◌, ◌-◌, ◌==◌, ℕ, zero, suc, Bool, true, false, List, [], ◌∷◌, ◌++◌, length, drop, slice_get, nat_lt, if◌then◌else◌, Option, Some, None, Result, Ok, Err, refl, sym, ap, subst, ◌∙◌, inl, inr, arith, length-append}
+use Rattle.std.proofs.Common.{◌≡◌, ◌⊎◌, ◌≤◌, ◌+◌, ◌-◌, ◌==◌, ℕ, Bool, true, false, List, [], ◌∷◌, ◌++◌, length, drop, slice_get, nat_lt, if◌then◌else◌, Option, Some, None, Result, Ok, Err, refl, sym, ap, subst, ◌∙◌, inl, inr, arith, length-append}
 use Rattle.std.proofs.lemmas.Bool.Decides.{nat_tests}
 use Rattle.std.proofs.lemmas.List.{length-set, length-drop, drop-drop, drop-append-le}
 use Rattle.credit_book.specs.declared.book.Report.{Report}
@@ -9,23 +9,22 @@ use Rattle.accounts.specs.Ledgers.{Finishes, Ledger}
 use Rattle.accounts.specs.declared.keep_limits.KeepLimits.{KeepLimits}
 use Rattle.sessions.specs.Grammar.{Asked, JobText, grant, account, submit, status, result}
 use Rattle.sessions.specs.JobKeys.{job_among, latest, noted}
-use Rattle.sessions.specs.Replies.{frame_of, frame_or_refusal, refusal_data, reply_data, submit_data}
+use Rattle.sessions.specs.Replies.{frame_of, frame_or_refusal, reply_data, submit_data}
 use Rattle.sessions.specs.declared.job_key.KeyedJob.{KeyedJob}
 use Rattle.sessions.specs.declared.reply.Reply.{Reply}
 use Rattle.sessions.specs.declared.reply.Reply.TheVariants as reply
 use Rattle.streams.specs.Answering as plainly
 use Rattle.streams.specs.Answering.{Settles}
 use Rattle.server_state.specs.Alone.{alone, one_desk, part_of, waiting_of}
-use Rattle.server_state.specs.Answering.{NotesEnd}
-use Rattle.server_state.specs.Desks.{Replies, RepliesByKey, RepliesOrRefuses, RepliesPlainly, keys_behind, looks_at, refusal_frame, starts_at, submit_frame}
+use Rattle.server_state.specs.Desks.{Replies, RepliesByKey, RepliesPlainly, keys_behind, refusal_frame, submit_frame}
 use Rattle.server_state.specs.Histories.{Event, Happens, was_asked, has_ended}
 use Rattle.server_state.specs.Keyed.{AreKeyed, IsRefusal, frame_of_event, key_in, key_of, none_yet, one_taken, none_taken, one_again, other}
-use Rattle.server_state.specs.Queries.{Destination, Query, counts, desk_at, desk_query, goes, jobs, keyed, own_desk, own_submit, plain, refused_by, tenant_place}
+use Rattle.server_state.specs.Queries.{Destination, Query, counts, desk_at, desk_query, goes, jobs, keyed, own_submit, plain, refused_by, tenant_place}
 use Rattle.server_state.specs.States.{DeskState, JobsSteps, ServerState, starting_to}
 use Rattle.server_state.specs.declared.access.Access.{Access}
 use Rattle.server_state.specs.declared.job_id.JobId.{JobId}
 use Rattle.server_state.proofs.AloneLemmas.{each_alone}
-use Rattle.server_state.proofs.OneDesk.{IsAside, along}
+use Rattle.server_state.proofs.OneDesk.{along}
 
 -- ---- the last 1,000
 

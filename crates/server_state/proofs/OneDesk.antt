@@ -1,11 +1,11 @@
 -- Whatever holds of the desk of a server that has one, step by step, holds behind each of its histories.
-use Rattle.std.proofs.Common.{◌≡◌, ◌≢◌, ◌⊎◌, ◌≤◌, ℕ, zero, suc, List, [], ◌∷◌, ◌++◌, length, slice_get, slice_set, Option, Some, Result, refl, sym, ap, subst, ◌∙◌, inl, inr, arith}
+use Rattle.std.proofs.Common.{◌≡◌, ◌≢◌, ℕ, zero, suc, List, [], ◌∷◌, ◌++◌, length, slice_get, slice_set, Some, Result, refl, sym, ap, subst, ◌∙◌, inl, inr, arith}
 use Rattle.credit_book.specs.declared.book.Report.{Report}
 use Rattle.job_core.specs.Admitted.{AdmittedJob}
 use Rattle.accounts.specs.declared.keep_limits.KeepLimits.{KeepLimits}
 use Rattle.server_state.specs.declared.access.Access.{Access}
 use Rattle.server_state.specs.declared.job_id.JobId.{JobId}
-use Rattle.server_state.specs.States.{DeskState, JobsSteps, ServerState, starting_to, with_jobs}
+use Rattle.server_state.specs.States.{DeskState, JobsSteps, ServerState, starting_to}
 use Rattle.server_state.specs.Queries.{Query, Destination, desk_at, server_itself, refused_by, desk_query, goes}
 use Rattle.server_state.specs.Desks.{Replies, refusal_frame}
 use Rattle.server_state.specs.Answering.{AnswersAt, Begins, ChangesAt, Ends, NotesEnd, TellsCounts}

@@ -14,7 +14,7 @@ part_joined : (names : List (List ℕ)) (place : ℕ) (events : List Event) (e :
 part_joined names place [] e = refl
 part_joined names place (x ∷ events) e =
     ap (put_if (is_of names place x) (at_home names x)) (part_joined names place events e)
-        ∙ put_joined (is_of names place x) (at_home names x) (part_of names place events) (put_if (is_of names place e) (at_home names e) [])
+    ∙ put_joined (is_of names place x) (at_home names x) (part_of names place events) (put_if (is_of names place e) (at_home names e) [])
 
 -- an event of the desk
 pub part_here : (names : List (List ℕ)) (place : ℕ) (events : List Event) (e : Event) → is_of names place e ≡ true
@@ -39,7 +39,7 @@ waiting_joined : (place : ℕ) (jobs : List (JobId × AdmittedJob)) (job : JobId
 waiting_joined place [] job = refl
 waiting_joined place (x ∷ jobs) job =
     ap (put_if (x.0.desk == place) (job_at_home x)) (waiting_joined place jobs job)
-        ∙ put_joined (x.0.desk == place) (job_at_home x) (waiting_of place jobs) (put_if (job.0.desk == place) (job_at_home job) [])
+    ∙ put_joined (x.0.desk == place) (job_at_home x) (waiting_of place jobs) (put_if (job.0.desk == place) (job_at_home job) [])
 
 pub waiting_here : (place : ℕ) (jobs : List (JobId × AdmittedJob)) (job : JobId × AdmittedJob) → job.0.desk ≡ place → waiting_of place (jobs ++ job ∷ []) ≡ waiting_of place jobs ++ job_at_home job ∷ []
 waiting_here place jobs job is =

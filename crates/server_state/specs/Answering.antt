@@ -1,9 +1,8 @@
 -- The one relation: what a server answers.
-use Rattle.std.specs.Prelude.{◌≡◌, ◌⊎◌, ◌≤◌, ℕ, Bool, List, [], ◌∷◌, ◌++◌, length, slice_get, slice_set, Option, Some, None, Result, Ok, Err}
+use Rattle.std.specs.Prelude.{◌≡◌, ◌⊎◌, ◌≤◌, ℕ, List, [], ◌∷◌, ◌++◌, length, slice_get, slice_set, Some, None, Result, Ok, Err}
 use Rattle.credit_book.specs.declared.book.Report.{Report}
 use Rattle.job_core.specs.Admitted.{AdmittedJob}
-use Rattle.accounts.specs.Ledgers.{Ledger}
-use Rattle.sessions.specs.Replies.{frame_of, frame_or_refusal, server_data}
+use Rattle.sessions.specs.Replies.{frame_or_refusal, server_data}
 use Rattle.sessions.specs.declared.server_totals.ConnectionTotals.{ConnectionTotals}
 use Rattle.sessions.specs.declared.server_totals.JobTotals.{JobTotals}
 use Rattle.sessions.specs.declared.server_totals.RefusalCount.{RefusalCount}

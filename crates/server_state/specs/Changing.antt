@@ -1,5 +1,5 @@
 -- What changes make of desks.
-use Rattle.std.specs.Prelude.{◌≡◌, ℕ, List, [], ◌∷◌, ◌++◌, length, slice_get, slice_set, Option, Some, None, Result, true, option_map, string_bytes}
+use Rattle.std.specs.Prelude.{◌≡◌, ℕ, List, [], ◌∷◌, ◌++◌, length, slice_get, slice_set, Option, Some, None, true, option_map, string_bytes}
 use Rattle.job_core.specs.Admission.{IsAdmittedFrom}
 use Rattle.job_core.specs.Admitted.{AdmittedJob}
 use Rattle.accounts.specs.Ledgers.{Ledger, Finishes, Forgets, GrantsMore, Takes}

@@ -1,4 +1,4 @@
-use Rattle.std.proofs.Common.{◌≡◌, ◌<◌, ◌∙◌, ℕ, length, ap, sym, subst, arith}
+use Rattle.std.proofs.Common.{◌≡◌, ◌<◌, ◌∙◌, ℕ, length, ap, sym, arith}
 use Rattle.sessions.specs.JobKeys.{noted}
 use Rattle.streams.specs.Prepared.{asked_of}
 use Rattle.server_state.specs.Changing.{desk_with}

@@ -4,7 +4,7 @@ use Rattle.server_state.specs.Desks.{Replies, jobs_frame, refusal_frame}
 use Rattle.server_state.specs.States.{steps_of}
 use Rattle.server_handler.specs.DeskAnswers.{IsReply, query_asked}
 use Rattle.server_handler.specs.declared.desk_query.DeskQuery.{DeskQuery}
-use Rattle.server_handler.specs.declared.desk_query.DeskQuery.TheVariants.{Jobs, Keyed}
+use Rattle.server_handler.specs.declared.desk_query.DeskQuery.TheVariants.{Keyed}
 use Rattle.server_handler.proofs.Replied.{is_reply, listing_replies, no_key_replies, records_no_change}
 use Rattle.server_handler.proofs.served_desk.answer_query.Goals as goal
 

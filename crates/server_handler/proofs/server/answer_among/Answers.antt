@@ -1,8 +1,8 @@
-use Rattle.std.proofs.Common.{◌≡◌, ◌<◌, ◌∙◌, List, ℕ, length, map, string_bytes, slice_get, Some, refl, sym, ap, subst, rules, arith}
+use Rattle.std.proofs.Common.{◌<◌, ◌∙◌, List, ℕ, length, refl, sym, ap, subst, rules, arith}
 use Rattle.std.proofs.lemmas.Option.{slice_get_read}
 use Rattle.accounts.specs.declared.keep_limits.KeepLimits.{KeepLimits}
 use Rattle.server_state.specs.Desks.{Replies}
-use Rattle.server_state.specs.Queries.{desk_at, desk_query, goes, refused_by}
+use Rattle.server_state.specs.Queries.{desk_query, goes}
 use Rattle.server_state.specs.States.{steps_of}
 use Rattle.server_handler.specs.DeskAnswers.{IsReply, query_asked}
 use Rattle.server_handler.proofs.Among.{all_at, all_nothing, answered_among, answered_nowhere}

@@ -1,4 +1,4 @@
-use Rattle.std.proofs.Common.{◌≡◌, ◌<◌, ◌∙◌, ℕ, List, Some, length, slice_get, slice_set, refl, sym, ap, subst, inl, rules, arith}
+use Rattle.std.proofs.Common.{◌<◌, ◌∙◌, ℕ, length, slice_get, slice_set, refl, sym, ap, subst, inl, rules, arith}
 use Rattle.std.proofs.lemmas.Option.{slice_get_read}
 use Rattle.server_state.specs.Changing.{RecordsAll}
 use Rattle.server_handler.proofs.Among.{all_at, all_nothing}

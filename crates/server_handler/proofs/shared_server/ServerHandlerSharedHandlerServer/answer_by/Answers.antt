@@ -1,4 +1,3 @@
-use Rattle.std.proofs.Common.{List, ℕ}
 use Rattle.shared_desk.specs.Histories as shared
 use Rattle.streams.specs.Prepared.{asked_of}
 use Rattle.server_state.specs.States.{steps_of}
