@@ -1,4 +1,5 @@
 mod Among
+mod Grants
 mod Made
 pub mod OwnLemmas
 mod Recorded

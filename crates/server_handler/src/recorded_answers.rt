@@ -9,7 +9,7 @@ ghost use Rattle.streams.specs.Refusing.{TellsRefusal};
 ghost use Rattle.server_state.specs.Changing.{Records};
 ghost use Rattle.server_handler.specs.Recording.{keyed_taken};
 
-use crate::made_changes::{add_made, forgotten_change, granted_change};
+use crate::made_changes::{add_made, forgotten_change, granted_change, sound_grant};
 use crate::recorded_submit::{answer_admitted_recorded, answer_submit_recorded};
 use accounts::{Account, Desk, DeskFault, KeepLimits};
 use refusal::NoMemory;
@@ -39,9 +39,11 @@ pub fn grant_recorded<C: Changes>(
     ensures unchanged { OnErr result (desk.new ≡ desk.old) }
     ensures records { Records C.Changes place changes.old changes.new desk.old desk.new [] }
 {
+    let before = desk.account(tenant);
     let made = granted_change(alloc, changes, place, tenant, amount);
     match desk.grant(alloc, tenant, amount) {
         Ok(account) => {
+            let made = sound_grant(before, account, made);
             add_made(changes, place, made);
             Ok(account)
         }
