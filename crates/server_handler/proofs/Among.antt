@@ -2,10 +2,10 @@
 use Rattle.std.proofs.Common.{◌≡◌, ℕ, zero, suc, List, [], ◌∷◌, ◌++◌, append_assoc, append-nil, slice_get, slice_set, Some, Result, IfOk, refl, sym, ap, subst, ◌∙◌, inl, inr}
 use Rattle.refusal.specs.declared.NoMemory.{NoMemory}
 use Rattle.credit_book.specs.declared.book.Report.{Report}
-use Rattle.server_state.specs.Answering.{Answers, AnswersAt, Ends}
+use Rattle.server_state.specs.Answering.{ServerAnswers, AnswersAt, EndsJob}
 use Rattle.server_state.specs.Changing.{AddsAll, LeadAll, Leads, Makes, RecordsAll, desk_of, no_change, one_change}
 use Rattle.server_state.specs.Changing as changing
-use Rattle.server_state.specs.Desks.{Replies, refusal_frame}
+use Rattle.server_state.specs.Desks.{DeskReplies, refusal_frame}
 use Rattle.server_state.specs.Queries.{Destination, Query, desk_at, desk_query, goes, refused_by}
 use Rattle.server_state.specs.States.{DeskState, JobsSteps, ServerState}
 use Rattle.server_state.specs.declared.access.Access.{Access}
@@ -79,7 +79,7 @@ module _ {R : Type 0} (m : JobsSteps R) (s : ServerState R) where
   at_desks desks r = record s { desks = desks; jobs = r }
 
   pub ends_among : (desks : List DeskState) (r : R) (id : JobId) (outcome : Result Report ℕ) (new : List DeskState) (q : R) → m.takes r (Some (id, outcome)) q → NotesAmong desks id outcome new
-      → Ends m (record s { desks = desks; jobs = r }) id outcome (record s { desks = new; jobs = q })
+      → EndsJob m (record s { desks = desks; jobs = r }) id outcome (record s { desks = new; jobs = q })
   unfolding at_desks
   ends_among desks r id outcome new q takes (inl n) = record {
     takes = takes;
@@ -89,22 +89,22 @@ module _ {R : Type 0} (m : JobsSteps R) (s : ServerState R) where
 
   pub answered_nowhere : (desks : List DeskState) (r : R) (access : Access) (query : Query) (code : ℕ) (reply : Result (List ℕ) NoMemory) → goes s.names access query ≡ refused_by code
       → IfOk reply (λ frame. frame ≡ refusal_frame code)
-      → IsReply reply (λ frame. Answers m (record s { desks = desks; jobs = r }) access query frame (record s { desks = desks; jobs = r }))
+      → IsReply reply (λ frame. ServerAnswers m (record s { desks = desks; jobs = r }) access query frame (record s { desks = desks; jobs = r }))
   answered_nowhere desks r access query code reply to is =
-      is_reply reply (λ frame. Answers m (record s { desks = desks; jobs = r }) access query frame (record s { desks = desks; jobs = r })) (refusal_frame code) is
+      is_reply reply (λ frame. ServerAnswers m (record s { desks = desks; jobs = r }) access query frame (record s { desks = desks; jobs = r })) (refusal_frame code) is
       (subst (λ (d : Destination). AnswersAt m d (record s { desks = desks; jobs = r }) (desk_query s.names access query) (refusal_frame code) (record s { desks = desks; jobs = r })) (sym to) (refl, refl))
 
   pub answered_among : (desks : List DeskState) (r : R) (access : Access) (query own : Query) (place : ℕ) (before after : DeskState) (q : R) (reply : Result (List ℕ) NoMemory) → goes s.names access query ≡ desk_at place
       → own ≡ desk_query s.names access query → slice_get desks place ≡ Some before
-      → IsReply reply (λ frame. Replies m place s.keep before r own frame after q)
-      → IsReply reply (λ frame. Answers m (record s { desks = desks; jobs = r }) access query frame (record s { desks = slice_set desks place after; jobs = q }))
+      → IsReply reply (λ frame. DeskReplies m place s.keep before r own frame after q)
+      → IsReply reply (λ frame. ServerAnswers m (record s { desks = desks; jobs = r }) access query frame (record s { desks = slice_set desks place after; jobs = q }))
   answered_among desks r access query own place before after q reply to same was is =
-      is_reply_weaker reply (λ frame. Replies m place s.keep before r own frame after q) _
+      is_reply_weaker reply (λ frame. DeskReplies m place s.keep before r own frame after q) _
       (λ frame t. subst (λ (d : Destination). AnswersAt m d (record s { desks = desks; jobs = r }) (desk_query s.names access query) frame (record s { desks = slice_set desks place after; jobs = q })) (sym to) (record {
         before = before;
         was = was;
         after = after;
-        changed = subst (λ (x : Query). Replies m place s.keep before r x frame after q) same t;
+        changed = subst (λ (x : Query). DeskReplies m place s.keep before r x frame after q) same t;
         is = refl;
       }))
       is

@@ -13,11 +13,11 @@ use Rattle.sessions.specs.declared.job_key.KeyedJob.{KeyedJob}
 use Rattle.streams.specs.Answering as plainly
 use Rattle.streams.specs.Answering.{Framed}
 use Rattle.server_state.specs.Changing.{Leads, Records, desk_with, last_keyed, no_change, noted_each}
-use Rattle.server_state.specs.Desks.{Replies, RepliesByKey, jobs_frame, keys_behind, looks_at, refusal_frame, starts_at, submit_frame}
+use Rattle.server_state.specs.Desks.{DeskReplies, RepliesByKey, jobs_frame, keys_behind, looks_at, refusal_frame, starts_at, submit_frame}
 use Rattle.server_state.specs.Queries.{plain, keyed, jobs}
 use Rattle.server_state.specs.States.{DeskState, JobsSteps}
 use Rattle.server_state.specs.declared.change.Changes.{Ghosts}
-use Rattle.server_handler.specs.DeskAnswers.{IsReply, LedgerReplies, RecordsAt, desk_looks, desk_starts}
+use Rattle.server_handler.specs.DeskAnswers.{IsReply, RepliesFromLedger, RecordsAt, desk_looks, desk_starts}
 use Rattle.server_handler.specs.Recording.{keyed_taken}
 use Rattle.server_handler.specs.declared.desk_jobs.DeskJobs.{DeskJobs}
 
@@ -83,9 +83,9 @@ module _ {R : Type 0} (m : JobsSteps R) where
   pub ledger_replies : (keep : KeepLimits) (d : Ledger) (r : DeskJobs R) (asks : Result Asked ℕ) (reply : Result (List ℕ) NoMemory) (mid : Ledger) (s : DeskJobs R) (e : Ledger)
       → (asked : Asked) × (asks ≡ Ok asked)
       → Framed reply (λ told. plainly.Replies (desk_starts m) (desk_looks m) d r asks told mid s) → KeepsWithin keep mid e
-      → IsReply reply (λ frame. LedgerReplies m r.desk keep d r.jobs asks frame e s.jobs)
+      → IsReply reply (λ frame. RepliesFromLedger m r.desk keep d r.jobs asks frame e s.jobs)
   ledger_replies keep d r asks reply mid s e ok framed keeps = is_reply reply _ (frame_of framed.told) framed.frame
-      (subst (λ (a : Result Asked ℕ). LedgerReplies m r.desk keep d r.jobs a (frame_of framed.told) e s.jobs) (sym ok.1) (record {
+      (subst (λ (a : Result Asked ℕ). RepliesFromLedger m r.desk keep d r.jobs a (frame_of framed.told) e s.jobs) (sym ok.1) (record {
         mid = mid;
         told = framed.told;
         replies = asked_by_all d r ok.0 (reply_data framed.told) mid s (subst (λ (a : Result Asked ℕ). plainly.Replies (desk_starts m) (desk_looks m) d r a (reply_data framed.told) mid s) ok.1 framed.was);
@@ -95,13 +95,13 @@ module _ {R : Type 0} (m : JobsSteps R) where
 
   -- ---- the desk with its keys
 
-  pub plain_replies : (keep : KeepLimits) (place : ℕ) (d : DeskState) (r : R) (asks : Result Asked ℕ) (frame : List ℕ) (e : Ledger) (s : R) → LedgerReplies m place keep d.ledger r asks frame e s
-      → Replies m place keep d r (plain asks) frame (desk_with e d.keys) s
-  unfolding Replies
+  pub plain_replies : (keep : KeepLimits) (place : ℕ) (d : DeskState) (r : R) (asks : Result Asked ℕ) (frame : List ℕ) (e : Ledger) (s : R) → RepliesFromLedger m place keep d.ledger r asks frame e s
+      → DeskReplies m place keep d r (plain asks) frame (desk_with e d.keys) s
+  unfolding DeskReplies
   plain_replies keep place d r (Ok asked) frame e s t = (t, refl)
   plain_replies keep place d r (Err code) frame e s t = (t.0, ap (λ (l : Ledger). desk_with l d.keys) t.1, t.2)
 
-  by_new_key : (keep : KeepLimits) (place : ℕ) (d : DeskState) (r : R) (key : List ℕ) (asks : Result Asked ℕ) (frame : List ℕ) (e : Ledger) (s : R) → LedgerReplies m place keep d.ledger r asks frame e s
+  by_new_key : (keep : KeepLimits) (place : ℕ) (d : DeskState) (r : R) (key : List ℕ) (asks : Result Asked ℕ) (frame : List ℕ) (e : Ledger) (s : R) → RepliesFromLedger m place keep d.ledger r asks frame e s
       → RepliesByKey m place keep None d r key asks frame (desk_with e (keys_behind d key e)) s
   by_new_key keep place d r key (Ok asked) frame e s t = (t, refl)
   by_new_key keep place d r key (Err code) frame e s t =
@@ -112,32 +112,32 @@ module _ {R : Type 0} (m : JobsSteps R) where
       )
 
   pub new_key_replies : (keep : KeepLimits) (place : ℕ) (d : DeskState) (r : R) (key : List ℕ) (asks : Result Asked ℕ) (frame : List ℕ) (e : Ledger) (s : R) → job_among d.keys key ≡ None
-      → LedgerReplies m place keep d.ledger r asks frame e s → Replies m place keep d r (keyed (Some key) asks) frame (desk_with e (keys_behind d key e)) s
-  unfolding Replies
+      → RepliesFromLedger m place keep d.ledger r asks frame e s → DeskReplies m place keep d r (keyed (Some key) asks) frame (desk_with e (keys_behind d key e)) s
+  unfolding DeskReplies
   new_key_replies keep place d r key asks frame e s unknown t =
       subst (λ (known : Option ℕ). RepliesByKey m place keep known d r key asks frame (desk_with e (keys_behind d key e)) s) (sym unknown) (by_new_key keep place d r key asks frame e s t)
 
   -- the same of a desk that is this one, and of the keys that it has then
   pub new_key_answered : (keep : KeepLimits) (place : ℕ) (d x : DeskState) (r : R) (key : List ℕ) (asks : Result Asked ℕ) (reply : Result (List ℕ) NoMemory) (e : Ledger) (keys : List KeyedJob) (s : R)
-      → d ≡ x → keys ≡ keys_behind d key e → job_among x.keys key ≡ None → IsReply reply (λ frame. LedgerReplies m place keep d.ledger r asks frame e s)
-      → IsReply reply (λ frame. Replies m place keep x r (keyed (Some key) asks) frame (desk_with e keys) s)
+      → d ≡ x → keys ≡ keys_behind d key e → job_among x.keys key ≡ None → IsReply reply (λ frame. RepliesFromLedger m place keep d.ledger r asks frame e s)
+      → IsReply reply (λ frame. DeskReplies m place keep x r (keyed (Some key) asks) frame (desk_with e keys) s)
   new_key_answered keep place d x r key asks reply e keys s same behind unknown is =
       let here : job_among d.keys key ≡ None = ap (λ (y : DeskState). job_among y.keys key) same ∙ unknown in
-      let at_d = is_reply_weaker reply _ (λ frame. Replies m place keep d r (keyed (Some key) asks) frame (desk_with e (keys_behind d key e)) s) (λ frame t. new_key_replies keep place d r key asks frame e s here t) is in
-      let kept = subst (λ (k : List KeyedJob). IsReply reply (λ frame. Replies m place keep d r (keyed (Some key) asks) frame (desk_with e k) s)) (sym behind) at_d in
-      subst (λ (y : DeskState). IsReply reply (λ frame. Replies m place keep y r (keyed (Some key) asks) frame (desk_with e keys) s)) same kept
+      let at_d = is_reply_weaker reply _ (λ frame. DeskReplies m place keep d r (keyed (Some key) asks) frame (desk_with e (keys_behind d key e)) s) (λ frame t. new_key_replies keep place d r key asks frame e s here t) is in
+      let kept = subst (λ (k : List KeyedJob). IsReply reply (λ frame. DeskReplies m place keep d r (keyed (Some key) asks) frame (desk_with e k) s)) (sym behind) at_d in
+      subst (λ (y : DeskState). IsReply reply (λ frame. DeskReplies m place keep y r (keyed (Some key) asks) frame (desk_with e keys) s)) same kept
 
   pub known_replies : (keep : KeepLimits) (place : ℕ) (d : DeskState) (r : R) (key : List ℕ) (asks : Result Asked ℕ) (job : ℕ) → job_among d.keys key ≡ Some job
-      → Replies m place keep d r (keyed (Some key) asks) (submit_frame job) d r
-  unfolding Replies
+      → DeskReplies m place keep d r (keyed (Some key) asks) (submit_frame job) d r
+  unfolding DeskReplies
   known_replies keep place d r key asks job known = subst (λ (k : Option ℕ). RepliesByKey m place keep k d r key asks (submit_frame job) d r) (sym known) (refl, refl, refl)
 
-  pub no_key_replies : (keep : KeepLimits) (place : ℕ) (d : DeskState) (r : R) (asks : Result Asked ℕ) → Replies m place keep d r (keyed None asks) (refusal_frame 73) d r
-  unfolding Replies
+  pub no_key_replies : (keep : KeepLimits) (place : ℕ) (d : DeskState) (r : R) (asks : Result Asked ℕ) → DeskReplies m place keep d r (keyed None asks) (refusal_frame 73) d r
+  unfolding DeskReplies
   no_key_replies keep place d r asks = (refl, refl, refl)
 
-  pub listing_replies : (keep : KeepLimits) (place : ℕ) (d : DeskState) (r : R) (from : ℕ) → Replies m place keep d r (jobs from) (jobs_frame d from) d r
-  unfolding Replies
+  pub listing_replies : (keep : KeepLimits) (place : ℕ) (d : DeskState) (r : R) (from : ℕ) → DeskReplies m place keep d r (jobs from) (jobs_frame d from) d r
+  unfolding DeskReplies
   listing_replies keep place d r from = (refl, refl, refl)
 
 -- ---- what is added

@@ -4,7 +4,7 @@ use Rattle.refusal.specs.declared.NoMemory.{NoMemory}
 use Rattle.credit_book.specs.declared.book.Report.{Report}
 use Rattle.sessions.specs.Grammar.{Asked}
 use Rattle.shared_desk.specs.Histories as shared
-use Rattle.server_state.specs.Answering.{Answers, Collects}
+use Rattle.server_state.specs.Answering.{ServerAnswers, Collects}
 use Rattle.server_state.specs.Changing.{RecordsAll}
 use Rattle.server_state.specs.Queries.{Query}
 use Rattle.server_state.specs.States.{JobsSteps, ServerState}
@@ -27,7 +27,7 @@ reply_err (Err none) P is = is
 
 module _ {R C : Type 0} (m : JobsSteps R) (g : Ghosts C) (s mid t : ServerState R) (p q r : C) (query : shared.Query) where
   pub answers_shared : (own : Query) (asked : Result Asked ℕ) (frame : List ℕ) → IsOwnNamed s.names (access_of query.passage) query.asked asked → own ≡ query_with asked query.beyond
-      → (ends : List (JobId × Result Report ℕ)) × Collects m s ends mid → Answers m mid (access_of query.passage) own frame t → RecordsAll g p q s.desks mid.desks → RecordsAll g q r mid.desks t.desks
+      → (ends : List (JobId × Result Report ℕ)) × Collects m s ends mid → ServerAnswers m mid (access_of query.passage) own frame t → RecordsAll g p q s.desks mid.desks → RecordsAll g q r mid.desks t.desks
       → AnswersShared m g (s, p) query frame (t, r)
   answers_shared own asked frame by_name same collected answered first second = record {
     ends = collected.0;
@@ -36,7 +36,7 @@ module _ {R C : Type 0} (m : JobsSteps R) (g : Ghosts C) (s mid t : ServerState 
     answers = record {
       mid = mid;
       collects = collected.1;
-      answers = subst (λ (x : Query). Answers m mid (access_of query.passage) x frame t) same answered;
+      answers = subst (λ (x : Query). ServerAnswers m mid (access_of query.passage) x frame t) same answered;
     };
     records = all_both g p q r s.desks mid.desks t.desks first second;
   }
@@ -44,10 +44,10 @@ module _ {R C : Type 0} (m : JobsSteps R) (g : Ghosts C) (s mid t : ServerState 
   -- the same of a reply that is decided, by an access that is the passage's
   pub reply_shared : (access : Access) (own : Query) (asked : Result Asked ℕ) (reply : Result (List ℕ) NoMemory) (before : C) → access ≡ access_of query.passage → before ≡ p
       → IsOwnNamed s.names access query.asked asked → own ≡ query_with asked query.beyond
-      → (ends : List (JobId × Result Report ℕ)) × Collects m s ends mid → IsReply reply (λ frame. Answers m mid access own frame t) → RecordsAll g before q s.desks mid.desks → RecordsAll g q r mid.desks t.desks
+      → (ends : List (JobId × Result Report ℕ)) × Collects m s ends mid → IsReply reply (λ frame. ServerAnswers m mid access own frame t) → RecordsAll g before q s.desks mid.desks → RecordsAll g q r mid.desks t.desks
       → IsReply reply (λ frame. AnswersShared m g (s, p) query frame (t, r))
   reply_shared access own asked reply before rights start by_name same collected answered first second =
-      is_reply_weaker reply (λ frame. Answers m mid access own frame t) (λ frame. AnswersShared m g (s, p) query frame (t, r))
+      is_reply_weaker reply (λ frame. ServerAnswers m mid access own frame t) (λ frame. AnswersShared m g (s, p) query frame (t, r))
       (λ frame x. answers_shared own asked frame (subst (λ (a : Access). IsOwnNamed s.names a query.asked asked) rights by_name) same collected
-      (subst (λ (a : Access). Answers m mid a own frame t) rights x) (subst (λ (b : C). RecordsAll g b q s.desks mid.desks) start first) second)
+      (subst (λ (a : Access). ServerAnswers m mid a own frame t) rights x) (subst (λ (b : C). RecordsAll g b q s.desks mid.desks) start first) second)
       answered

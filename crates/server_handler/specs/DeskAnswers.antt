@@ -38,11 +38,11 @@ module _ {R : Type 0} (m : JobsSteps R) where
 
 -- A request is answered by the ledger of the desk at a place, which then forgets; or the number of a
 -- refusal is returned, and nothing changes.
-abbrev pub LedgerReplies : {R : Type 0} → JobsSteps R → ℕ → KeepLimits → Ledger → R → Result Asked ℕ
+abbrev pub RepliesFromLedger : {R : Type 0} → JobsSteps R → ℕ → KeepLimits → Ledger → R → Result Asked ℕ
     → List ℕ → Ledger → R → Type 0
-LedgerReplies m place keep old r (Ok asked) frame new s =
+RepliesFromLedger m place keep old r (Ok asked) frame new s =
     RepliesPlainly m place keep old r asked frame new s
-LedgerReplies m place keep old r (Err code) frame new s =
+RepliesFromLedger m place keep old r (Err code) frame new s =
     (frame ≡ refusal_frame code) × (new ≡ old) × (s ≡ r)
 
 -- the query of a connection, as contracts see it

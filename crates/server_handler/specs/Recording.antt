@@ -27,8 +27,8 @@ IsTaking place c key name programs credit buffer =
     (old new : Ledger) (job : AdmittedJob) → Takes old name credit new
     → IsAdmittedFrom programs credit buffer job → MakesAt place c old new (last_keyed key new)
 
-abbrev pub IsEnd : ℕ → Change → ℕ → Result Report ℕ → Type 0
-IsEnd place c number outcome =
+abbrev pub IsEndChange : ℕ → Change → ℕ → Result Report ℕ → Type 0
+IsEndChange place c number outcome =
     (old new : Ledger) → Finishes old number outcome new → MakesAt place c old new []
 
 abbrev pub IsForgetting : ℕ → Change → ℕ → Type 0

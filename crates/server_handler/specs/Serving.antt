@@ -3,7 +3,7 @@ use Rattle.std.specs.Prelude.{◌≡◌, ◌⊎◌, ◌≤◌, ℕ, Bool, List, 
 use Rattle.credit_book.specs.declared.book.Report.{Report}
 use Rattle.job_core.specs.Admitted.{AdmittedJob}
 use Rattle.server_state.specs.declared.job_id.JobId.{JobId}
-use Rattle.server_state.specs.Answering.{Begins, NotesEnd}
+use Rattle.server_state.specs.Answering.{BeginsWaiting, NotesEnd}
 use Rattle.server_state.specs.States.{DeskState, JobsSteps, ServerState}
 use Rattle.server_handler.specs.declared.server.WaitingJob.{WaitingJob}
 
@@ -27,4 +27,4 @@ waiting_job w = (w.id, w.job)
 
 -- the first job that waits was started, or it was refused and waits on
 abbrev pub BeginsOr : {R : Type 0} → Bool → JobsSteps R → ServerState R → ServerState R → Type 0
-BeginsOr started m s t = (b : Begins m s t) × (is_ok b.started ≡ started)
+BeginsOr started m s t = (b : BeginsWaiting m s t) × (is_ok b.started ≡ started)

@@ -20,7 +20,7 @@ mod shared_server;
 
 pub use desk_jobs::DeskJobs;
 pub use desk_query::DeskQuery;
-pub use served_desk::{DeskReply, ServedDesk};
 pub use no_store::NoStore;
+pub use served_desk::{DeskReply, ServedDesk};
 pub use server::{Server, WaitingJob};
 pub use shared_server::{ServerHandler, access_of};

@@ -5,7 +5,7 @@ ghost use Rattle.accounts.specs.Ledgers.{Finishes, Ledger};
 ghost use Rattle.credit_book.specs.declared.book.Report.{Report};
 ghost use Rattle.sessions.specs.declared.job_key.KeyedJob.{KeyedJob};
 ghost use Rattle.server_state.specs.Changing.{MakesAt, Records};
-ghost use Rattle.server_handler.specs.Recording.{IsEnd, IsForgetting, IsGrant, IsTaking};
+ghost use Rattle.server_handler.specs.Recording.{IsEndChange, IsForgetting, IsGrant, IsTaking};
 
 use accounts::{Account, Desk, DeskFault};
 use job_core::ProgramBytes;
@@ -61,13 +61,7 @@ pub fn sound_grant(
 {
     match before {
         Ok(_) => made,
-        Err(_) => {
-            if account.spent == 0 {
-                made
-            } else {
-                None
-            }
-        }
+        Err(_) => { if account.spent == 0 { made } else { None } }
     }
 }
 
@@ -137,7 +131,7 @@ pub fn settled_change<C: Changes>(
 
 /// The change of a job whose start was refused.
 pub fn failed_change(id: JobId, code: u8) -> Change
-    ensures { IsEnd id.desk result id.number (Err code) }
+    ensures { IsEndChange id.desk result id.number (Err code) }
 {
     Change::Settled {
         id,

@@ -4,11 +4,11 @@ ghost use Rattle.std.specs.Prelude.{◌≡◌, ◌≤◌, IfOk, None, Ok, Some, 
 ghost use Rattle.sessions.specs.Grammar.{Asked};
 ghost use Rattle.sessions.specs.JobKeys.{job_among};
 ghost use Rattle.streams.specs.Prepared.{asked_of};
-ghost use Rattle.server_state.specs.Desks.{Replies, first_number, jobs_frame, refusal_frame};
+ghost use Rattle.server_state.specs.Desks.{DeskReplies, first_number, jobs_frame, refusal_frame};
 ghost use Rattle.server_state.specs.Queries.{keyed, plain};
 ghost use Rattle.server_state.specs.States.{steps_of};
 ghost use Rattle.server_state.specs.Changing.{Records};
-ghost use Rattle.server_handler.specs.DeskAnswers.{IsReply, LedgerReplies, RecordsAt, query_asked};
+ghost use Rattle.server_handler.specs.DeskAnswers.{IsReply, RepliesFromLedger, RecordsAt, query_asked};
 ghost use Rattle.server_handler.specs.Recording.{keyed_taken};
 
 use crate::desk_jobs::DeskJobs;
@@ -109,7 +109,7 @@ fn answer_asked<N: Jobs, C: Changes>(
     requires asked { (asked : Asked) × (asked_of request ≡ Ok asked) }
     ensures ready { N.ready runner.new.jobs }
     ensures place { runner.new.desk ≡ runner.old.desk }
-    ensures replies { IsReply result.1 (λ frame. LedgerReplies (steps_of N.Jobs) runner.old.desk
+    ensures replies { IsReply result.1 (λ frame. RepliesFromLedger (steps_of N.Jobs) runner.old.desk
         keep ledger.old runner.old.jobs (asked_of request) frame ledger.new runner.new.jobs) }
     ensures records { Records C.Changes runner.old.desk changes.old changes.new ledger.old ledger.new
         (keyed_taken (option_map (λ k. k.now) key.entry) ledger.old ledger.new) }
@@ -133,7 +133,7 @@ fn answer_ledger<N: Jobs, C: Changes>(
     requires { N.ready runner.old.jobs }
     ensures ready { N.ready runner.new.jobs }
     ensures place { runner.new.desk ≡ runner.old.desk }
-    ensures replies { IsReply result.1 (λ frame. LedgerReplies (steps_of N.Jobs) runner.old.desk
+    ensures replies { IsReply result.1 (λ frame. RepliesFromLedger (steps_of N.Jobs) runner.old.desk
         keep ledger.old runner.old.jobs (asked_of request) frame ledger.new runner.new.jobs) }
     ensures records { Records C.Changes runner.old.desk changes.old changes.new ledger.old ledger.new
         (keyed_taken (option_map (λ k. k.now) key.entry) ledger.old ledger.new) }
@@ -162,7 +162,7 @@ fn answer_plain<N: Jobs, C: Changes>(
 ) -> DeskReply
     requires { N.ready runner.old.jobs }
     ensures ready { N.ready runner.new.jobs }
-    ensures replies { IsReply result.1 (λ frame. Replies (steps_of N.Jobs) runner.old.desk keep
+    ensures replies { IsReply result.1 (λ frame. DeskReplies (steps_of N.Jobs) runner.old.desk keep
         desk.old runner.old.jobs (plain (asked_of request)) frame desk.new runner.new.jobs) }
     ensures records { RecordsAt C.Changes runner.old.desk changes.old changes.new desk.old desk.new }
 {
@@ -190,7 +190,7 @@ fn answer_new_key<N: Jobs, C: Changes>(
     requires ready { N.ready runner.old.jobs }
     requires unknown { job_among desk.old.keys key ≡ None }
     ensures ready { N.ready runner.new.jobs }
-    ensures replies { IsReply result.1 (λ frame. Replies (steps_of N.Jobs) runner.old.desk keep
+    ensures replies { IsReply result.1 (λ frame. DeskReplies (steps_of N.Jobs) runner.old.desk keep
         desk.old runner.old.jobs (keyed (Some key) (asked_of submit)) frame desk.new
         runner.new.jobs) }
     ensures records { RecordsAt C.Changes runner.old.desk changes.old changes.new desk.old desk.new }
@@ -224,7 +224,7 @@ fn answer_keyed<N: Jobs, C: Changes>(
 ) -> DeskReply
     requires { N.ready runner.old.jobs }
     ensures ready { N.ready runner.new.jobs }
-    ensures replies { IsReply result.1 (λ frame. Replies (steps_of N.Jobs) runner.old.desk keep
+    ensures replies { IsReply result.1 (λ frame. DeskReplies (steps_of N.Jobs) runner.old.desk keep
         desk.old runner.old.jobs (keyed (Some key) (asked_of submit)) frame desk.new
         runner.new.jobs) }
     ensures records { RecordsAt C.Changes runner.old.desk changes.old changes.new desk.old desk.new }
@@ -268,7 +268,7 @@ pub(crate) fn answer_query<N: Jobs, C: Changes>(
 ) -> DeskReply
     requires { N.ready runner.old.jobs }
     ensures ready { N.ready runner.new.jobs }
-    ensures replies { IsReply result.1 (λ frame. Replies (steps_of N.Jobs) runner.old.desk keep
+    ensures replies { IsReply result.1 (λ frame. DeskReplies (steps_of N.Jobs) runner.old.desk keep
         desk.old runner.old.jobs (query_asked query) frame desk.new runner.new.jobs) }
     ensures records { RecordsAt C.Changes runner.old.desk changes.old changes.new desk.old desk.new }
 {

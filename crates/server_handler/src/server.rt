@@ -3,7 +3,7 @@
 ghost use Rattle.std.specs.Prelude.{◌≡◌, ◌≤◌, ◌+◌, ℕ, List, [], Result, false, length, map, string_bytes};
 ghost use Rattle.credit_book.specs.declared.book.Report.{Report};
 ghost use Rattle.server_state.specs.declared.job_id.JobId.{JobId};
-ghost use Rattle.server_state.specs.Answering.{Answers, Collects};
+ghost use Rattle.server_state.specs.Answering.{ServerAnswers, Collects};
 ghost use Rattle.server_state.specs.Changing.{RecordsAll};
 ghost use Rattle.server_state.specs.States.{ServerState, steps_of};
 ghost use Rattle.server_handler.specs.DeskAnswers.{IsReply, query_asked};
@@ -121,7 +121,7 @@ fn answer_among<N: Jobs, C: Changes>(
     requires desks { length desks.old.items ≡ length names.now + 1 }
     ensures ready { N.ready runner.new.jobs }
     ensures replies { (s : ServerState N) → s.names ≡ map string_bytes names.now → s.keep ≡ keep
-        → IsReply result.1 (λ frame. Answers (steps_of N.Jobs)
+        → IsReply result.1 (λ frame. ServerAnswers (steps_of N.Jobs)
         (record s { desks = desks.old.items; jobs = runner.old.jobs }) access (query_asked query)
         frame (record s { desks = desks.new.items; jobs = runner.new.jobs })) }
     ensures records { RecordsAll C.Changes changes.old changes.new desks.old.items desks.new.items }
@@ -167,7 +167,7 @@ impl<N: Jobs> Server<N> {
     ghost use Rattle.std.specs.Prelude.{◌≡◌, ◌≤◌, ◌+◌, ℕ, List, [], Result, false, length, map, string_bytes};
     ghost use Rattle.credit_book.specs.declared.book.Report.{Report};
     ghost use Rattle.server_state.specs.declared.job_id.JobId.{JobId};
-    ghost use Rattle.server_state.specs.Answering.{Answers, Collects};
+    ghost use Rattle.server_state.specs.Answering.{ServerAnswers, Collects};
     ghost use Rattle.server_state.specs.Changing.{RecordsAll};
     ghost use Rattle.server_state.specs.States.{steps_of};
     ghost use Rattle.server_handler.specs.DeskAnswers.{IsReply, query_asked};
@@ -222,7 +222,7 @@ impl<N: Jobs> Server<N> {
         access: Access,
         query: DeskQuery,
     ) -> DeskReply
-        ensures replies { IsReply result.1 (λ frame. Answers (steps_of N.Jobs) self.old access
+        ensures replies { IsReply result.1 (λ frame. ServerAnswers (steps_of N.Jobs) self.old access
             (query_asked query) frame self.new) }
         ensures records { RecordsAll C.Changes changes.old changes.new self.old.desks self.new.desks }
     {

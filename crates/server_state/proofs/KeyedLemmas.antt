@@ -15,10 +15,10 @@ use Rattle.sessions.specs.declared.reply.Reply.{Reply}
 use Rattle.sessions.specs.declared.reply.Reply.TheVariants as reply
 use Rattle.streams.specs.Answering as plainly
 use Rattle.streams.specs.Answering.{Settles}
-use Rattle.server_state.specs.Alone.{alone, one_desk, part_of, waiting_of}
-use Rattle.server_state.specs.Desks.{Replies, RepliesByKey, RepliesPlainly, keys_behind, refusal_frame, submit_frame}
-use Rattle.server_state.specs.Histories.{Event, Happens, was_asked, has_ended}
-use Rattle.server_state.specs.Keyed.{AreKeyed, IsRefusal, frame_of_event, key_in, key_of, none_yet, one_taken, none_taken, one_again, other}
+use Rattle.server_state.specs.Alone.{seen_by_desk, one_desk, part_of, waiting_of}
+use Rattle.server_state.specs.Desks.{DeskReplies, RepliesByKey, RepliesPlainly, keys_behind, refusal_frame, submit_frame}
+use Rattle.server_state.specs.Histories.{ServerEvent, Happens, was_asked, has_ended}
+use Rattle.server_state.specs.Keyed.{AreKeyed, IsRefusalFrame, frame_of_event, query_key, event_key, none_yet, one_taken, none_taken, one_again, other}
 use Rattle.server_state.specs.Queries.{Destination, Query, counts, desk_at, desk_query, goes, jobs, keyed, own_submit, plain, refused_by, tenant_place}
 use Rattle.server_state.specs.States.{DeskState, JobsSteps, ServerState, starting_to}
 use Rattle.server_state.specs.declared.access.Access.{Access}
@@ -55,7 +55,7 @@ settled_count desk number (Err code) after is = finished desk number (Err code) 
 module _ {R : Type 0} (m : JobsSteps R) (place : ℕ) (keep : KeepLimits) where
   -- a job is taken as the next one, and its number is sent; or none is, and the refusal is
   pub submit_taken : (d : Ledger) (r : R) (name : List ℕ) (order : JobText) (frame : List ℕ) (e : Ledger) (s : R) → RepliesPlainly m place keep d r (submit name order) frame e s
-      → ((length e.jobs ≡ length d.jobs + 1) × (frame ≡ submit_frame (length e.jobs))) ⊎ ((length e.jobs ≡ length d.jobs) × IsRefusal frame)
+      → ((length e.jobs ≡ length d.jobs + 1) × (frame ≡ submit_frame (length e.jobs))) ⊎ ((length e.jobs ≡ length d.jobs) × IsRefusalFrame frame)
   unfolding plainly.Replies
   submit_taken d r name order frame e s t =
       let kept = t.keeps.1.forgets.jobs.count in
@@ -71,7 +71,7 @@ module _ {R : Type 0} (m : JobsSteps R) (place : ℕ) (keep : KeepLimits) where
         )
       ]
 
-refusal_is : (code : ℕ) → IsRefusal (refusal_frame code)
+refusal_is : (code : ℕ) → IsRefusalFrame (refusal_frame code)
 refusal_is code = (code, None, None, framed (reply.Refused code None None))
 
 -- ---- the law
@@ -85,7 +85,7 @@ none_if true = refl
 none_if false = refl
 
 -- a query of no key
-no_key : (connection : ℕ) (access : Access) (query : Query) (frame : List ℕ) (started : Result (Unit {0}) ℕ) → key_in query ≡ None → key_of (was_asked connection access query frame started) ≡ None
+no_key : (connection : ℕ) (access : Access) (query : Query) (frame : List ℕ) (started : Result (Unit {0}) ℕ) → query_key query ≡ None → event_key (was_asked connection access query frame started) ≡ None
 unfolding key_if
 no_key connection access query frame started is = ap (key_if (access.desk == 0)) is ∙ none_if (access.desk == 0)
 
@@ -106,12 +106,12 @@ first_place desk is = let zero : desk ≡ 0 = grind (arith, nat_tests, is) in ap
 
 -- a submit by a key, of a connection of this desk
 with_key : (connection : ℕ) (access : Access) (key : List ℕ) (asked : Result Asked ℕ) (frame : List ℕ) (started : Result (Unit {0}) ℕ) → goes [] access (keyed (Some key) asked) ≡ desk_at 0
-    → key_of (was_asked connection access (keyed (Some key) asked) frame started) ≡ Some key
+    → event_key (was_asked connection access (keyed (Some key) asked) frame started) ≡ Some key
 unfolding key_if place_if
 with_key connection access key asked frame started to = ap (λ (b : Bool). key_if b (Some key)) (at_first access.desk to)
 
 -- and of a connection of none
-key_aside : (connection : ℕ) (access : Access) (query : Query) (frame : List ℕ) (started : Result (Unit {0}) ℕ) → (goes [] access query ≡ desk_at 0 → ⊥) → key_of (was_asked connection access query frame started) ≡ None
+key_aside : (connection : ℕ) (access : Access) (query : Query) (frame : List ℕ) (started : Result (Unit {0}) ℕ) → (goes [] access query ≡ desk_at 0 → ⊥) → event_key (was_asked connection access query frame started) ≡ None
 unfolding key_if place_if
 key_aside connection access (plain asked) frame started apart = none_if (access.desk == 0)
 key_aside connection access (jobs from) frame started apart = none_if (access.desk == 0)
@@ -123,12 +123,12 @@ key_aside connection access (keyed key asked) frame started apart = by (access.d
     by false is = refl
 
 -- the keyed jobs behind a history, of which the desk has the last
-pub record Keyed (first : List KeyedJob) (events : List Event) (d : DeskState) : Type 0 where
+pub record Keyed (first : List KeyedJob) (events : List ServerEvent) (d : DeskState) : Type 0 where
   pub all : List KeyedJob
   pub are : AreKeyed first events all
   pub same : d.keys ≡ latest all
 
-no_more : (first : List KeyedJob) (events : List Event) (d e : DeskState) (x : Event) → Keyed first events d → e.keys ≡ d.keys → key_of x ≡ None → Keyed first (events ++ x ∷ []) e
+no_more : (first : List KeyedJob) (events : List ServerEvent) (d e : DeskState) (x : ServerEvent) → Keyed first events d → e.keys ≡ d.keys → event_key x ≡ None → Keyed first (events ++ x ∷ []) e
 no_more first events d e x was same none = record { all = was.all; are = other events was.all x was.are none; same = same ∙ was.same }
 
 submit_if : Bool → List ℕ → JobText → Result Asked ℕ
@@ -145,12 +145,12 @@ none_taken_if d key e same =
     ap (λ (b : Bool). if b then noted d.keys (length e.jobs) key else d.keys) no
 
 module _ {R : Type 0} (m : JobsSteps R) (keep : KeepLimits) (first : List KeyedJob) where
-  module _ (events : List Event) (d : DeskState) (r : R) (e : DeskState) (s : R) (key : List ℕ) (frame : List ℕ) (x : Event) (was : Keyed first events d) (has : key_of x ≡ Some key)
+  module _ (events : List ServerEvent) (d : DeskState) (r : R) (e : DeskState) (s : R) (key : List ℕ) (frame : List ℕ) (x : ServerEvent) (was : Keyed first events d) (has : event_key x ≡ Some key)
       (sent : frame_of_event x ≡ frame) where
-    refused : job_among d.keys key ≡ None → e.keys ≡ d.keys → IsRefusal frame → Keyed first (events ++ x ∷ []) e
+    refused : job_among d.keys key ≡ None → e.keys ≡ d.keys → IsRefusalFrame frame → Keyed first (events ++ x ∷ []) e
     refused unknown same is = record {
       all = was.all;
-      are = none_taken events was.all x key was.are has (ap (λ ks. job_among ks key) (sym was.same) ∙ unknown) (subst IsRefusal (sym sent) is);
+      are = none_taken events was.all x key was.are has (ap (λ ks. job_among ks key) (sym was.same) ∙ unknown) (subst IsRefusalFrame (sym sent) is);
       same = same ∙ was.same;
     }
 
@@ -174,24 +174,24 @@ module _ {R : Type 0} (m : JobsSteps R) (keep : KeepLimits) (first : List KeyedJ
     submitted_if : (b : Bool) (name : List ℕ) (order : JobText) → job_among d.keys key ≡ None → RepliesByKey m 0 keep None d r key (submit_if b name order) frame e s → Keyed first (events ++ x ∷ []) e
     unfolding submit_if
     submitted_if true name order unknown t = submitted name order unknown t.0 t.1
-    submitted_if false name order unknown t = refused unknown (ap (λ (y : DeskState). y.keys) t.1) (subst IsRefusal (sym t.0) (refusal_is 74))
+    submitted_if false name order unknown t = refused unknown (ap (λ (y : DeskState). y.keys) t.1) (subst IsRefusalFrame (sym t.0) (refusal_is 74))
 
     by_own : (access : Access) (asked : Result Asked ℕ) → job_among d.keys key ≡ None → RepliesByKey m 0 keep None d r key (own_submit [] access asked) frame e s → Keyed first (events ++ x ∷ []) e
     unfolding submit_if
-    by_own access (Err code) unknown t = refused unknown (ap (λ (y : DeskState). y.keys) t.1) (subst IsRefusal (sym t.0) (refusal_is code))
-    by_own access (Ok (grant name amount)) unknown t = refused unknown (ap (λ (y : DeskState). y.keys) t.1) (subst IsRefusal (sym t.0) (refusal_is 73))
-    by_own access (Ok (account name)) unknown t = refused unknown (ap (λ (y : DeskState). y.keys) t.1) (subst IsRefusal (sym t.0) (refusal_is 73))
+    by_own access (Err code) unknown t = refused unknown (ap (λ (y : DeskState). y.keys) t.1) (subst IsRefusalFrame (sym t.0) (refusal_is code))
+    by_own access (Ok (grant name amount)) unknown t = refused unknown (ap (λ (y : DeskState). y.keys) t.1) (subst IsRefusalFrame (sym t.0) (refusal_is 73))
+    by_own access (Ok (account name)) unknown t = refused unknown (ap (λ (y : DeskState). y.keys) t.1) (subst IsRefusalFrame (sym t.0) (refusal_is 73))
     by_own access (Ok (submit name job)) unknown t = submitted_if (tenant_place [] name == access.desk) name job unknown t
-    by_own access (Ok (status number)) unknown t = refused unknown (ap (λ (y : DeskState). y.keys) t.1) (subst IsRefusal (sym t.0) (refusal_is 73))
-    by_own access (Ok (result number)) unknown t = refused unknown (ap (λ (y : DeskState). y.keys) t.1) (subst IsRefusal (sym t.0) (refusal_is 73))
+    by_own access (Ok (status number)) unknown t = refused unknown (ap (λ (y : DeskState). y.keys) t.1) (subst IsRefusalFrame (sym t.0) (refusal_is 73))
+    by_own access (Ok (result number)) unknown t = refused unknown (ap (λ (y : DeskState). y.keys) t.1) (subst IsRefusalFrame (sym t.0) (refusal_is 73))
 
     by_key : (access : Access) (asked : Result Asked ℕ) (known : Option ℕ) → job_among d.keys key ≡ known → RepliesByKey m 0 keep known d r key (own_submit [] access asked) frame e s → Keyed first (events ++ x ∷ []) e
     by_key access asked None unknown t = by_own access asked unknown t
     by_key access asked (Some job) known t = again job known t.1 t.0
 
-  after_answer : (events : List Event) (d : DeskState) (connection : ℕ) (access : Access) (query : Query) (frame : List ℕ) (started : Result (Unit {0}) ℕ) (r : R) (e : DeskState) (s : R) → Keyed first events d → goes [] access query ≡ desk_at 0
-      → Replies m 0 keep d r (desk_query [] access query) frame e s → Keyed first (events ++ was_asked connection access query frame started ∷ []) e
-  unfolding Replies
+  after_answer : (events : List ServerEvent) (d : DeskState) (connection : ℕ) (access : Access) (query : Query) (frame : List ℕ) (started : Result (Unit {0}) ℕ) (r : R) (e : DeskState) (s : R) → Keyed first events d → goes [] access query ≡ desk_at 0
+      → DeskReplies m 0 keep d r (desk_query [] access query) frame e s → Keyed first (events ++ was_asked connection access query frame started ∷ []) e
+  unfolding DeskReplies
   after_answer events d connection access (plain (Ok asked)) frame started r e s was to t = no_more first events d e (was_asked connection access (plain (Ok asked)) frame started) was t.1 (no_key connection access (plain (Ok asked)) frame started refl)
   after_answer events d connection access (plain (Err code)) frame started r e s was to t =
       no_more first events d e (was_asked connection access (plain (Err code)) frame started) was (ap (λ (y : DeskState). y.keys) t.1) (no_key connection access (plain (Err code)) frame started refl)
@@ -203,7 +203,7 @@ module _ {R : Type 0} (m : JobsSteps R) (keep : KeepLimits) (first : List KeyedJ
       no_more first events d e (was_asked connection access (jobs from) frame started) was (ap (λ (y : DeskState). y.keys) t.1) (no_key connection access (jobs from) frame started refl)
   after_answer events d connection access (counts stops) frame started r e s was to t = absurd t
 
-pub keys_along : {R : Type 0} (m : JobsSteps R) (keep : KeepLimits) (begun : DeskState) (waiting : List (JobId × AdmittedJob)) (q : R) (events : List Event) (s : ServerState R) → begun.keys ≡ latest begun.keys
+pub keys_along : {R : Type 0} (m : JobsSteps R) (keep : KeepLimits) (begun : DeskState) (waiting : List (JobId × AdmittedJob)) (q : R) (events : List ServerEvent) (s : ServerState R) → begun.keys ≡ latest begun.keys
     → Happens m (one_desk keep begun waiting q) events s → (d : DeskState) × (s.desks ≡ d ∷ []) × Keyed begun.keys events d
 keys_along m keep begun waiting q events s last happens =
     along m keep begun (Keyed begun.keys)
@@ -214,11 +214,11 @@ keys_along m keep begun waiting q events s last happens =
     waiting q (record { all = begun.keys; are = none_yet; same = last }) events s happens
 
 -- the same at each desk of any server
-pub keys_at_each : {R : Type 0} (m : JobsSteps R) (first s : ServerState R) (events : List Event) (place : ℕ) (begun desk : DeskState) → Happens m first events s → slice_get first.desks place ≡ Some begun → begun.keys ≡ latest begun.keys
+pub keys_at_each : {R : Type 0} (m : JobsSteps R) (first s : ServerState R) (events : List ServerEvent) (place : ℕ) (begun desk : DeskState) → Happens m first events s → slice_get first.desks place ≡ Some begun → begun.keys ≡ latest begun.keys
     → slice_get s.desks place ≡ Some desk → (all : List KeyedJob) × AreKeyed begun.keys (part_of first.names place events) all × (desk.keys ≡ latest all)
 keys_at_each m first s events place begun desk happens there last at =
     let own = each_alone m place first begun there events s desk happens at in
-    let k = keys_along (alone m place) first.keep begun (waiting_of place first.waiting) first.jobs (part_of first.names place events) (one_desk first.keep desk (waiting_of place s.waiting) own.left) last own.happens in
+    let k = keys_along (seen_by_desk m place) first.keep begun (waiting_of place first.waiting) first.jobs (part_of first.names place events) (one_desk first.keep desk (waiting_of place s.waiting) own.left) last own.happens in
     let is = k.1 in
     let same : desk ≡ k.0 = cc in
     (k.2.all, k.2.are, ap (λ (d : DeskState). d.keys) same ∙ k.2.same)

@@ -4,48 +4,48 @@ use Rattle.sessions.specs.JobKeys.{job_among, latest}
 use Rattle.sessions.specs.Replies.{frame_or_refusal, refusal_data}
 use Rattle.sessions.specs.declared.job_key.KeyedJob.{KeyedJob}
 use Rattle.server_state.specs.Desks.{submit_frame}
-use Rattle.server_state.specs.Histories.{Event, was_asked, has_ended}
+use Rattle.server_state.specs.Histories.{ServerEvent, was_asked, has_ended}
 use Rattle.server_state.specs.Queries.{Query, plain, keyed, jobs, counts}
 
-abbrev pub key_in : Query → Option (List ℕ)
-key_in (plain asked) = None
-key_in (keyed key asked) = key
-key_in (jobs from) = None
-key_in (counts stops) = None
+abbrev pub query_key : Query → Option (List ℕ)
+query_key (plain asked) = None
+query_key (keyed key asked) = key
+query_key (jobs from) = None
+query_key (counts stops) = None
 
 -- the key of a submit by a connection of the desk
-abbrev pub key_of : Event → Option (List ℕ)
-key_of (was_asked connection access query frame started) =
-    if access.desk == 0 then key_in query else None
-key_of (has_ended id outcome) = None
+abbrev pub event_key : ServerEvent → Option (List ℕ)
+event_key (was_asked connection access query frame started) =
+    if access.desk == 0 then query_key query else None
+event_key (has_ended id outcome) = None
 
 -- the frame that was sent
-abbrev pub frame_of_event : Event → List ℕ
+abbrev pub frame_of_event : ServerEvent → List ℕ
 frame_of_event (was_asked connection access query frame started) = frame
 frame_of_event (has_ended id outcome) = []
 
 -- the frame of a refusal
-abbrev pub IsRefusal : List ℕ → Type 0
-IsRefusal frame = (code : ℕ) × (program slot : Option ℕ)
+abbrev pub IsRefusalFrame : List ℕ → Type 0
+IsRefusalFrame frame = (code : ℕ) × (program slot : Option ℕ)
     × (frame ≡ frame_or_refusal (refusal_data code program slot))
 
 -- The keyed jobs behind a history that begins with these, oldest first. A submit by a key of the last
 -- 1,000 of them is sent the number of that key's job. One by another key is sent the number of a
 -- job, which has this key from then on, or a refusal.
-pub data AreKeyed (first : List KeyedJob) : List Event → List KeyedJob → Type 0 where
+pub data AreKeyed (first : List KeyedJob) : List ServerEvent → List KeyedJob → Type 0 where
   none_yet : AreKeyed first [] first
-  one_taken : (events : List Event) (keyed_jobs : List KeyedJob) (e : Event) (key : List ℕ) (job : ℕ)
-      → AreKeyed first events keyed_jobs → key_of e ≡ Some key
+  one_taken : (events : List ServerEvent) (keyed_jobs : List KeyedJob) (e : ServerEvent) (key : List ℕ) (job : ℕ)
+      → AreKeyed first events keyed_jobs → event_key e ≡ Some key
       → job_among (latest keyed_jobs) key ≡ None → frame_of_event e ≡ submit_frame job
       → AreKeyed first (events ++ e ∷ []) (keyed_jobs ++ record { job = job; key = key } ∷ [])
-  none_taken : (events : List Event) (keyed_jobs : List KeyedJob) (e : Event) (key : List ℕ)
-      → AreKeyed first events keyed_jobs → key_of e ≡ Some key
-      → job_among (latest keyed_jobs) key ≡ None → IsRefusal (frame_of_event e)
+  none_taken : (events : List ServerEvent) (keyed_jobs : List KeyedJob) (e : ServerEvent) (key : List ℕ)
+      → AreKeyed first events keyed_jobs → event_key e ≡ Some key
+      → job_among (latest keyed_jobs) key ≡ None → IsRefusalFrame (frame_of_event e)
       → AreKeyed first (events ++ e ∷ []) keyed_jobs
-  one_again : (events : List Event) (keyed_jobs : List KeyedJob) (e : Event) (key : List ℕ) (job : ℕ)
-      → AreKeyed first events keyed_jobs → key_of e ≡ Some key
+  one_again : (events : List ServerEvent) (keyed_jobs : List KeyedJob) (e : ServerEvent) (key : List ℕ) (job : ℕ)
+      → AreKeyed first events keyed_jobs → event_key e ≡ Some key
       → job_among (latest keyed_jobs) key ≡ Some job → frame_of_event e ≡ submit_frame job
       → AreKeyed first (events ++ e ∷ []) keyed_jobs
-  other : (events : List Event) (keyed_jobs : List KeyedJob) (e : Event)
-      → AreKeyed first events keyed_jobs → key_of e ≡ None
+  other : (events : List ServerEvent) (keyed_jobs : List KeyedJob) (e : ServerEvent)
+      → AreKeyed first events keyed_jobs → event_key e ≡ None
       → AreKeyed first (events ++ e ∷ []) keyed_jobs

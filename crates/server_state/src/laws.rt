@@ -4,7 +4,7 @@ ghost use Rattle.std.specs.Prelude.{◌≡◌, ℕ, List, Some, slice_get};
 ghost use Rattle.sessions.specs.JobKeys.{latest};
 ghost use Rattle.sessions.specs.declared.job_key.KeyedJob.{KeyedJob};
 ghost use Rattle.server_state.specs.Alone.{HasServerAlone, part_of};
-ghost use Rattle.server_state.specs.Histories.{Event, Happens};
+ghost use Rattle.server_state.specs.Histories.{ServerEvent, Happens};
 ghost use Rattle.server_state.specs.Keyed.{AreKeyed};
 ghost use Rattle.server_state.specs.States.{DeskState, ServerState, steps_of};
 
@@ -14,7 +14,7 @@ use crate::jobs::Jobs;
 /// of the server that has this desk and no other, under the same relation, and it leads to the desk
 /// as it is. Only the steps of the runner of all jobs show what others do.
 pub fn each_tenant_is_alone<N: Jobs>()
-    ensures { (first s : ServerState N) (events : List Event) (place : ℕ) (begun desk : DeskState)
+    ensures { (first s : ServerState N) (events : List ServerEvent) (place : ℕ) (begun desk : DeskState)
         → Happens (steps_of N.Jobs) first events s
         → slice_get first.desks place ≡ Some begun → slice_get s.desks place ≡ Some desk
         → HasServerAlone (steps_of N.Jobs) place first begun events s desk }
@@ -25,7 +25,7 @@ pub fn each_tenant_is_alone<N: Jobs>()
 /// key's job. One by a new key is sent the number of a job, which has the key from then on, or a
 /// refusal.
 pub fn one_key_one_job<N: Jobs>()
-    ensures { (first s : ServerState N) (events : List Event) (place : ℕ) (begun desk : DeskState)
+    ensures { (first s : ServerState N) (events : List ServerEvent) (place : ℕ) (begun desk : DeskState)
         → Happens (steps_of N.Jobs) first events s
         → slice_get first.desks place ≡ Some begun → begun.keys ≡ latest begun.keys
         → slice_get s.desks place ≡ Some desk

@@ -1,7 +1,7 @@
 use Rattle.std.proofs.Common.{◌<◌, ◌∙◌, List, ℕ, length, refl, sym, ap, subst, rules, arith}
 use Rattle.std.proofs.lemmas.Option.{slice_get_read}
 use Rattle.accounts.specs.declared.keep_limits.KeepLimits.{KeepLimits}
-use Rattle.server_state.specs.Desks.{Replies}
+use Rattle.server_state.specs.Desks.{DeskReplies}
 use Rattle.server_state.specs.Queries.{desk_query, goes}
 use Rattle.server_state.specs.States.{steps_of}
 use Rattle.server_handler.specs.DeskAnswers.{IsReply, query_asked}
@@ -29,7 +29,7 @@ returns-clause-replies g c s named kept =
     (ap (λ (names : List (List ℕ)). goes names c.args.access (query_asked c.args.query)) named ∙ c.in-Ok.ensures.desk)
     (c.desk_query-query.ensures ∙ ap (λ (names : List (List ℕ)). desk_query names c.args.access (query_asked c.args.query)) (sym named))
     (slice_get_read desks (length desks) c.in-Ok.place before refl within c.index_mut.ensures.value)
-    (subst (λ (k : KeepLimits). IsReply a.result.1 (λ frame. Replies m c.in-Ok.place k before r own frame a.new.desk a.new.runner.jobs)) (sym kept) a.ensures.replies)
+    (subst (λ (k : KeepLimits). IsReply a.result.1 (λ frame. DeskReplies m c.in-Ok.place k before r own frame a.new.desk a.new.runner.jobs)) (sym kept) a.ensures.replies)
 
 pub returns-clause-records : goal.returns-clause-records
 returns-clause-records g c =
