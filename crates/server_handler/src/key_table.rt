@@ -1,4 +1,4 @@
-//! The keys that a door remembers.
+//! The keys that a desk remembers.
 
 ghost use Rattle.std.specs.Prelude.{◌≡◌, IfOk};
 ghost use Rattle.sessions.specs.JobKeys as keys_of;
@@ -7,7 +7,7 @@ use refusal::NoMemory;
 use sessions::{JobKey, KeyedJob, KeyedJobs};
 use std::marker::Model;
 
-/// The keys of the last 1,000 jobs that were submitted at a door by one. Contracts see it as these,
+/// The keys of the last 1,000 jobs that were submitted at a desk by one. Contracts see it as these,
 /// oldest first. Its memory for them is taken ahead, so that noting a key can't fail.
 #[derive(Drop)]
 pub(crate) struct KeyTable {
@@ -26,7 +26,7 @@ impl Model for KeyTable {
 }
 
 impl KeyTable {
-    /// These keys, and memory for all that a door remembers. Refused where there is none.
+    /// These keys, and memory for all that a desk remembers. Refused where there is none.
     pub(crate) fn of(keys: KeyedJobs) -> Result<KeyTable, NoMemory>
         ensures { IfOk result (λ table. table ≡ keys.jobs) }
     {
