@@ -5,3 +5,7 @@ mod HomeLemmas
 mod AloneLemmas
 mod OneDesk
 mod KeyedLemmas
+mod ListEnds
+mod StaysOver
+mod Moments
+mod StayLemmas

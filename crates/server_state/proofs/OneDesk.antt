@@ -17,7 +17,7 @@ pub data IsAside : List ℕ → Type 0 where
   of_counts : (frame : List ℕ) → TellsCounts frame → IsAside frame
   of_refusal : (code : ℕ) → IsAside (refusal_frame code)
 
-first_of_one : (d e : DeskState) (place : ℕ) → slice_get (d ∷ []) place ≡ Some e → (place ≡ 0) × (e ≡ d)
+pub first_of_one : (d e : DeskState) (place : ℕ) → slice_get (d ∷ []) place ≡ Some e → (place ≡ 0) × (e ≡ d)
 first_of_one d e zero at = (refl, cc)
 first_of_one d e (suc place) at = cc
 
