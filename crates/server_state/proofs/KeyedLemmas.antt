@@ -45,10 +45,10 @@ framed : (told : Reply) → frame_of told ≡ frame_or_refusal (reply_data told)
 unfolding frame_of
 framed told = refl
 
-finished : (old : Ledger) (number : ℕ) (outcome : Result Report ℕ) (new : Ledger) → Finishes old number outcome new → length new.jobs ≡ length old.jobs
+pub finished : (old : Ledger) (number : ℕ) (outcome : Result Report ℕ) (new : Ledger) → Finishes old number outcome new → length new.jobs ≡ length old.jobs
 finished old number outcome new f = ap length f.jobs.jobs ∙ length-set old.jobs (number - 1) _
 
-settled_count : (desk : Ledger) (number : ℕ) (outcome : Result (Unit {0}) ℕ) (after : Ledger) → Settles desk number outcome after → length after.jobs ≡ length desk.jobs
+pub settled_count : (desk : Ledger) (number : ℕ) (outcome : Result (Unit {0}) ℕ) (after : Ledger) → Settles desk number outcome after → length after.jobs ≡ length desk.jobs
 settled_count desk number (Ok started) after is = ap (λ (l : Ledger). length l.jobs) is
 settled_count desk number (Err code) after is = finished desk number (Err code) after is
 
@@ -105,13 +105,13 @@ unfolding place_if
 first_place desk is = let zero : desk ≡ 0 = grind (arith, nat_tests, is) in ap (λ (n : ℕ). place_if (nat_lt 0 n) n) zero
 
 -- a submit by a key, of a connection of this desk
-with_key : (connection : ℕ) (access : Access) (key : List ℕ) (asked : Result Asked ℕ) (frame : List ℕ) (started : Result (Unit {0}) ℕ) → goes [] access (keyed (Some key) asked) ≡ desk_at 0
+pub with_key : (connection : ℕ) (access : Access) (key : List ℕ) (asked : Result Asked ℕ) (frame : List ℕ) (started : Result (Unit {0}) ℕ) → goes [] access (keyed (Some key) asked) ≡ desk_at 0
     → event_key (was_asked connection access (keyed (Some key) asked) frame started) ≡ Some key
 unfolding key_if place_if
 with_key connection access key asked frame started to = ap (λ (b : Bool). key_if b (Some key)) (at_first access.desk to)
 
 -- and of a connection of none
-key_aside : (connection : ℕ) (access : Access) (query : Query) (frame : List ℕ) (started : Result (Unit {0}) ℕ) → (goes [] access query ≡ desk_at 0 → ⊥) → event_key (was_asked connection access query frame started) ≡ None
+pub key_aside : (connection : ℕ) (access : Access) (query : Query) (frame : List ℕ) (started : Result (Unit {0}) ℕ) → (goes [] access query ≡ desk_at 0 → ⊥) → event_key (was_asked connection access query frame started) ≡ None
 unfolding key_if place_if
 key_aside connection access (plain asked) frame started apart = none_if (access.desk == 0)
 key_aside connection access (jobs from) frame started apart = none_if (access.desk == 0)
@@ -128,7 +128,7 @@ pub record Keyed (first : List KeyedJob) (events : List ServerEvent) (d : DeskSt
   pub are : AreKeyed first events all
   pub same : d.keys ≡ latest all
 
-no_more : (first : List KeyedJob) (events : List ServerEvent) (d e : DeskState) (x : ServerEvent) → Keyed first events d → e.keys ≡ d.keys → event_key x ≡ None → Keyed first (events ++ x ∷ []) e
+pub no_more : (first : List KeyedJob) (events : List ServerEvent) (d e : DeskState) (x : ServerEvent) → Keyed first events d → e.keys ≡ d.keys → event_key x ≡ None → Keyed first (events ++ x ∷ []) e
 no_more first events d e x was same none = record { all = was.all; are = other events was.all x was.are none; same = same ∙ was.same }
 
 submit_if : Bool → List ℕ → JobText → Result Asked ℕ
@@ -189,7 +189,7 @@ module _ {R : Type 0} (m : JobsSteps R) (keep : KeepLimits) (first : List KeyedJ
     by_key access asked None unknown t = by_own access asked unknown t
     by_key access asked (Some job) known t = again job known t.1 t.0
 
-  after_answer : (events : List ServerEvent) (d : DeskState) (connection : ℕ) (access : Access) (query : Query) (frame : List ℕ) (started : Result (Unit {0}) ℕ) (r : R) (e : DeskState) (s : R) → Keyed first events d → goes [] access query ≡ desk_at 0
+  pub after_answer : (events : List ServerEvent) (d : DeskState) (connection : ℕ) (access : Access) (query : Query) (frame : List ℕ) (started : Result (Unit {0}) ℕ) (r : R) (e : DeskState) (s : R) → Keyed first events d → goes [] access query ≡ desk_at 0
       → DeskReplies m 0 keep d r (desk_query [] access query) frame e s → Keyed first (events ++ was_asked connection access query frame started ∷ []) e
   unfolding DeskReplies
   after_answer events d connection access (plain (Ok asked)) frame started r e s was to t = no_more first events d e (was_asked connection access (plain (Ok asked)) frame started) was t.1 (no_key connection access (plain (Ok asked)) frame started refl)

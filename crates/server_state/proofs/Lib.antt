@@ -9,3 +9,6 @@ mod ListEnds
 mod StaysOver
 mod Moments
 mod StayLemmas
+mod ReplyFrames
+mod KnownLemmas
+mod NumberLemmas

@@ -101,6 +101,20 @@ IsSubmitRefusal frame =
 abbrev pub TakesNoJob : ServerEvent → Type 0
 TakesNoJob e = (QueriesJob (event_query e) → ⊥) ⊎ IsSubmitRefusal (frame_of_event e)
 
+-- none of the events has this key
+abbrev pub NoneHas : List ℕ → List ServerEvent → Type 0
+NoneHas key [] = Unit {0}
+NoneHas key (e ∷ events) = (event_key e ≢ Some key) × NoneHas key events
+
+-- no keyed job had this key at first, and no event since
+abbrev pub IsNewKey : List KeyedJob → List ServerEvent → Option (List ℕ) → Type 0
+IsNewKey keys before None = Unit {0}
+IsNewKey keys before (Some key) = (job_among keys key ≡ None) × NoneHas key before
+
+-- the event asks for a job, without a key or by a new one
+abbrev pub IsNewSubmit : List KeyedJob → List ServerEvent → ServerEvent → Type 0
+IsNewSubmit keys before e = QueriesJob (event_query e) × IsNewKey keys before (event_key e)
+
 -- The event is a submit by a key that is remembered, and is sent the number of that key's job.
 pub record SendsAgain (keys : List KeyedJob) (before : List ServerEvent) (e : ServerEvent) :
     Type 0 where

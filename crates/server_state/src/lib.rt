@@ -13,4 +13,4 @@ pub use change::{Change, Changes};
 pub use job_id::JobId;
 pub use jobs::{Jobs, RefusedStart};
 pub use laws::{each_tenant_is_alone, one_key_one_job};
-pub use result_laws::results_stay;
+pub use result_laws::{numbers_rise, results_stay};
