@@ -12,3 +12,5 @@ mod StayLemmas
 mod ReplyFrames
 mod KnownLemmas
 mod NumberLemmas
+mod StandsFor
+mod HistoryStands
