@@ -73,7 +73,7 @@ pub home_before : (events others : List ServerEvent) → AreAtHome (events ++ ot
 home_before [] others all = tt
 home_before (e ∷ events) others all = (all.0, home_before events others all.1)
 
-home_last : (events : List ServerEvent) (e : ServerEvent) → AreAtHome (events ++ e ∷ []) → IsAtHome e
+pub home_last : (events : List ServerEvent) (e : ServerEvent) → AreAtHome (events ++ e ∷ []) → IsAtHome e
 home_last [] e all = all.0
 home_last (x ∷ events) e all = home_last events e all.1
 

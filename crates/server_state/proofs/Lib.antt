@@ -14,3 +14,4 @@ mod KnownLemmas
 mod NumberLemmas
 mod StandsFor
 mod HistoryStands
+mod ResultLemmas

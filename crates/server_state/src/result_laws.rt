@@ -1,14 +1,15 @@
 //! The laws of jobs and results, from a submit to what is sent of its job.
 
-ghost use Rattle.std.specs.Prelude.{◌≡◌, ◌+◌, ◌-◌, ◌<◌, ◌^◌, ℕ, List, ◌∷◌, ◌++◌, length, Some, slice_get};
+ghost use Rattle.std.specs.Prelude.{◌≡◌, ◌⊎◌, ◌+◌, ◌-◌, ◌<◌, ◌^◌, ℕ, List, ◌∷◌, ◌++◌, length, Some, slice_get};
 ghost use Rattle.sessions.specs.JobKeys.{latest};
-ghost use Rattle.server_state.specs.Alone.{part_of};
+ghost use Rattle.server_state.specs.Alone.{part_of, waiting_of};
 ghost use Rattle.server_state.specs.Desks.{submit_frame};
 ghost use Rattle.server_state.specs.Histories.{ServerEvent, Happens};
 ghost use Rattle.server_state.specs.Keyed.{frame_of_event};
-ghost use Rattle.server_state.specs.Results.{AsksForResult, IsNewSubmit, StaysSent};
-ghost use Rattle.server_state.specs.States.{DeskState, ServerState, steps_of};
+ghost use Rattle.server_state.specs.Results.{AreKnownAtFirst, AsksForResult, ComesFromSubmit, IsNewSubmit, IsResultFrame, IsSubmittedBefore, IsToldKnown, KnownJob, StaysSent, WasReported};
+ghost use Rattle.server_state.specs.States.{DeskState, ServerState, id_at, steps_of};
 
+use crate::job_ends::JobEnds;
 use crate::jobs::Jobs;
 
 /// At each desk of any server, a submit is sent a greater number than each one before it, so no two
@@ -25,6 +26,38 @@ pub fn numbers_rise<N: Jobs>()
         → IsNewSubmit begun.keys before e → frame_of_event e ≡ submit_frame m → m < 2 ^ 64
         → IsNewSubmit begun.keys (before ++ e ∷ between) f → frame_of_event f ≡ submit_frame n
         → n < 2 ^ 64 → m < n }
+{}
+
+/// At each desk of any server, a request for a result is sent the result of its number. The frame
+/// of a result has the report of the very job that an earlier submit asked for, and that was sent
+/// this number, or of one that was known when the history began. It adds up to the credit of that
+/// submit. The history begins at any desk: a fresh one, or one that was restored, whose open jobs
+/// wait for their start.
+pub fn results_come_from_submits<N: JobEnds>()
+    ensures told { (first s : ServerState N) (events : List ServerEvent) (place : ℕ) (begun desk : DeskState)
+        → Happens (steps_of N.Jobs) first events s
+        → slice_get first.desks place ≡ Some begun → begun.keys ≡ latest begun.keys
+        → slice_get s.desks place ≡ Some desk → (known : List KnownJob)
+        → AreKnownAtFirst (λ r n. N.at r (id_at place n)) begun (waiting_of place first.waiting)
+        first.jobs known
+        → (before after : List ServerEvent) (e : ServerEvent) (number : ℕ)
+        → part_of first.names place events ≡ before ++ e ∷ after → AsksForResult number e
+        → IsToldKnown (λ n. N.ends (id_at place n)) N.refuses first.keep begun.keys known before number e }
+    ensures submitted { (first s : ServerState N) (events : List ServerEvent) (place : ℕ) (begun desk : DeskState)
+        → Happens (steps_of N.Jobs) first events s
+        → slice_get first.desks place ≡ Some begun → begun.keys ≡ latest begun.keys
+        → slice_get s.desks place ≡ Some desk → (known : List KnownJob)
+        → AreKnownAtFirst (λ r n. N.at r (id_at place n)) begun (waiting_of place first.waiting)
+        first.jobs known
+        → (before after : List ServerEvent) (e : ServerEvent) (number : ℕ)
+        → part_of first.names place events ≡ before ++ e ∷ after → AsksForResult number e
+        → IsResultFrame (frame_of_event e)
+        → ComesFromSubmit (λ n. N.ends (id_at place n)) known before number e
+        ⊎ WasReported known number e }
+    ensures adds_up { (place : ℕ) (known : List KnownJob) (before : List ServerEvent) (number : ℕ)
+        (e : ServerEvent) (c : ComesFromSubmit (λ n. N.ends (id_at place n)) known before number e)
+        (b : IsSubmittedBefore before number c.job)
+        → c.report.spent + c.report.returned ≡ b.is_submit.credit }
 {}
 
 /// At each desk of any server, what is sent of a job's result stays the same once the job is over,
