@@ -1,5 +1,5 @@
 -- Behind every history of a server of one desk, the desk's jobs stand for those that are known.
-use Rattle.std.proofs.Common.{◌≡◌, ◌≢◌, ◌⊎◌, ◌+◌, ◌-◌, ◌<◌, ◌≤◌, ℕ, zero, suc, Bool, true, false, nat_eq, if◌then◌else◌, List, [], ◌∷◌, ◌++◌, length, slice_get, Option, Some, None, Result, Ok, Err, refl, sym, ap, subst, ◌∙◌, inl, inr, arith}
+use Rattle.std.proofs.Common.{◌≡◌, ◌≢◌, ◌⊎◌, ◌+◌, ◌-◌, ◌≤◌, ℕ, zero, suc, Bool, false, nat_eq, if◌then◌else◌, List, [], ◌∷◌, ◌++◌, length, slice_get, Option, Some, None, Result, Ok, Err, refl, sym, ap, subst, ◌∙◌, inl, inr, arith}
 use Rattle.std.proofs.lemmas.Bool.Decides.{nat_tests}
 use Rattle.credit_book.specs.declared.book.Report.{Report}
 use Rattle.credit_book.specs.declared.board.Progress.{Progress}
@@ -11,17 +11,17 @@ use Rattle.streams.specs.Answering.{Settles}
 use Rattle.server_state.specs.declared.access.Access.{Access}
 use Rattle.server_state.specs.declared.job_id.JobId.{JobId}
 use Rattle.server_state.specs.Answering.{NotesEnd, waiting_behind}
-use Rattle.server_state.specs.Desks.{DeskReplies, starts_at}
+use Rattle.server_state.specs.Desks.{DeskReplies}
 use Rattle.server_state.specs.Histories.{ServerEvent, was_asked, has_ended}
 use Rattle.server_state.specs.Queries.{Destination, Query, desk_at, desk_query, goes}
-use Rattle.server_state.specs.Results.{AreKnown, IsHeld, IsSubmit, Itself, KnownJob, TakesNoJob, known_at, no_more, one_again, one_more}
+use Rattle.server_state.specs.Results.{AreKnown, IsHeld, IsSubmit, Itself, KnownJob, known_at, no_more, one_again, one_more}
 use Rattle.server_state.specs.States.{DeskState, JobsSteps, id_at, starting_to}
 use Rattle.server_state.proofs.KeyedLemmas.{Keyed, after_answer as keyed_answer, key_aside, no_more as no_more_keys}
-use Rattle.server_state.proofs.KnownLemmas.{IsAgain, KeepsJobs, Step, TakesOne, again_of, aside_takes_none, step_of}
-use Rattle.server_state.proofs.ListEnds.{get_before, get_behind, get_within, length_pushed, within_get}
+use Rattle.server_state.proofs.KnownLemmas.{KeepsJobs, Step, TakesOne, again_of, aside_takes_none, step_of}
+use Rattle.server_state.proofs.ListEnds.{get_before, get_behind, length_pushed}
 use Rattle.server_state.proofs.ListLemmas.{same_or_not}
 use Rattle.server_state.proofs.Moments.{IsAsideAt}
-use Rattle.server_state.proofs.StandsFor.{AllStand, Ended, StandsFor, all_stand, ended_by, get_pushed, stand_finished, stand_kept, stand_noted, stand_taken}
+use Rattle.server_state.proofs.StandsFor.{AllStand, StandsFor, all_stand, ended_by, get_pushed, stand_finished, stand_kept, stand_noted, stand_taken}
 
 -- ---- the job of a number
 
@@ -82,7 +82,7 @@ module _ {R : Type 0} (m : JobsSteps R) (at : R → ℕ → Option AdmittedJob) 
   -- ---- what is held stays held
 
   same_held : (w : List (JobId × AdmittedJob)) (r s : R) (n : ℕ) (j : AdmittedJob) → at s n ≡ at r n → IsHeld at w r n j → IsHeld at w s n j
-  same_held w r s n j same h = record { there = elim h.there [ | inl waits ↦ inl waits | inr runs ↦ inr (same ∙ runs) ]; only = λ other is. h.only other (sym same ∙ is) }
+  same_held w r s n j same h = record { there = elim h.there [ inl waits ↦ inl waits | inr runs ↦ inr (same ∙ runs) ]; only = λ other is. h.only other (sym same ∙ is) }
 
   -- the jobs that are known behind a history, the desk's jobs, and those that wait
   pub record Stood (events : List ServerEvent) (d : DeskState) (w : List (JobId × AdmittedJob)) (r : R) : Type 0 where
@@ -146,7 +146,7 @@ module _ {R : Type 0} (m : JobsSteps R) (at : R → ℕ → Option AdmittedJob) 
         let step = runs.refused r (length mid.jobs) job code s starts in
         stand_finished ends refuses keep runs.whole (known ++ Itself job ∷ []) mid as_held (IsHeld at w s) (length mid.jobs) (Err code) t.mid
         (taken_with as_held (inr (refl, refl)) (λ n j apart held. inl held))
-        (λ n j apart held. elim held [ | inl was ↦ same_held w r s n j (step.1 n) was | inr new ↦ absurd (apart (new.0 ∙ sym number)) ])
+        (λ n j apart held. elim held [ inl was ↦ same_held w r s n j (step.1 n) was | inr new ↦ absurd (apart (new.0 ∙ sym number)) ])
         (λ j held. inr step.0) settles
 
     one_taken : AllStand ends refuses keep (known ++ Itself t.takes.job ∷ []) e.ledger.jobs (IsHeld at w s)

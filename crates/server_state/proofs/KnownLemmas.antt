@@ -1,16 +1,14 @@
 -- Each event of a desk takes one job or none, and the jobs that are known are as many as the desk has.
-use Rattle.std.proofs.Common.{◌≡◌, ◌≢◌, ◌⊎◌, ◌+◌, ◌==◌, ℕ, Bool, true, false, List, [], ◌∷◌, ◌++◌, length, nat_lt, if◌then◌else◌, Option, Some, None, Result, Ok, Err, refl, sym, ap, subst, ◌∙◌, inl, inr, arith}
+use Rattle.std.proofs.Common.{◌≡◌, ◌⊎◌, ◌+◌, ◌==◌, ℕ, Bool, true, false, List, [], ◌∷◌, ◌++◌, length, nat_lt, if◌then◌else◌, Option, Some, None, Result, Ok, Err, refl, sym, ap, subst, ◌∙◌, inl, inr}
 use Rattle.credit_book.specs.declared.board.Progress.{Progress}
 use Rattle.credit_book.specs.declared.book.Report.{Report}
 use Rattle.job_core.specs.declared.admission.ProgramBytes.{ProgramBytes}
-use Rattle.job_core.specs.Admitted.{AdmittedJob}
 use Rattle.accounts.specs.Ledgers.{Ledger, KeepsWithin}
 use Rattle.accounts.specs.declared.keep_limits.KeepLimits.{KeepLimits}
 use Rattle.sessions.specs.Grammar.{Asked, JobText, grant, account, submit, status, result}
-use Rattle.sessions.specs.JobKeys.{job_among, latest}
-use Rattle.sessions.specs.Replies.{frame_of, frame_or_refusal, reply_data, submit_data}
+use Rattle.sessions.specs.JobKeys.{job_among}
+use Rattle.sessions.specs.Replies.{frame_or_refusal, reply_data, submit_data}
 use Rattle.sessions.specs.declared.job_key.KeyedJob.{KeyedJob}
-use Rattle.sessions.specs.declared.reply.Reply.{Reply}
 use Rattle.sessions.specs.declared.reply.Reply.TheVariants as reply
 use Rattle.serde_json.specs.Data.{Data}
 use Rattle.streams.specs.Answering as plainly
@@ -18,11 +16,11 @@ use Rattle.streams.specs.Answering.{Grants, GrantsNone}
 use Rattle.server_state.specs.declared.access.Access.{Access}
 use Rattle.server_state.specs.declared.job_id.JobId.{JobId}
 use Rattle.server_state.specs.Answering.{NotesEnd}
-use Rattle.server_state.specs.Desks.{DeskReplies, RepliesByKey, RepliesOrRefuses, RepliesPlainly, looks_at, refusal_frame, starts_at, submit_frame}
+use Rattle.server_state.specs.Desks.{DeskReplies, RepliesByKey, RepliesPlainly, refusal_frame, starts_at, submit_frame}
 use Rattle.server_state.specs.Histories.{ServerEvent, was_asked, has_ended}
 use Rattle.server_state.specs.Keyed.{event_key, frame_of_event}
-use Rattle.server_state.specs.Queries.{Destination, Query, counts, desk_at, desk_query, goes, jobs, keyed, own_submit, plain, refused_by, server_itself, tenant_place}
-use Rattle.server_state.specs.Results.{AreKnown, IsSubmit, IsSubmitRefusal, Itself, KnownJob, QueriesJob, RequestsJob, SendsAgain, TakesNoJob, event_query, no_more, one_again, one_more, with_key}
+use Rattle.server_state.specs.Queries.{Destination, Query, counts, desk_at, desk_query, goes, jobs, keyed, own_submit, plain, refused_by, tenant_place}
+use Rattle.server_state.specs.Results.{AreKnown, IsSubmit, IsSubmitRefusal, Itself, KnownJob, QueriesJob, RequestsJob, SendsAgain, TakesNoJob, no_more, one_again, one_more, with_key}
 use Rattle.server_state.specs.States.{DeskState, JobsSteps, id_at, starting_to}
 use Rattle.server_state.proofs.KeyedLemmas.{Keyed, after_answer as keyed_answer, finished, key_aside, no_more as no_more_keys, settled_count, with_key as has_key}
 use Rattle.streams.specs.Passing.{Notes}

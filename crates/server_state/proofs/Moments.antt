@@ -1,5 +1,5 @@
 -- What holds of the one desk of a server and its runner, step by step, holds behind each history and at each of its events.
-use Rattle.std.proofs.Common.{◌≡◌, ◌≢◌, ◌⊎◌, ℕ, zero, suc, List, [], ◌∷◌, ◌++◌, length, slice_get, slice_set, Some, None, Result, refl, sym, ap, subst, ◌∙◌, inl, inr, arith}
+use Rattle.std.proofs.Common.{◌≡◌, ◌≢◌, ◌⊎◌, ℕ, List, [], ◌∷◌, ◌++◌, length, slice_get, slice_set, Some, None, Result, refl, sym, ap, subst, ◌∙◌, inl, inr, arith}
 use Rattle.credit_book.specs.declared.book.Report.{Report}
 use Rattle.job_core.specs.Admitted.{AdmittedJob}
 use Rattle.accounts.specs.declared.keep_limits.KeepLimits.{KeepLimits}

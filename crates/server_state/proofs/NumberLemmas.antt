@@ -3,7 +3,7 @@ use Rattle.std.proofs.Common.{◌≡◌, ◌≢◌, ◌+◌, ◌-◌, ◌<◌, �
 use Rattle.std.specs.Str.{bytes_eq}
 use Rattle.std.proofs.lemmas.Slice.Eq.{bytes_eq-Decides}
 use Rattle.std.proofs.lemmas.Bool.Decides.{nat_tests}
-use Rattle.std.proofs.lemmas.List.{append_cancel_right, length-map}
+use Rattle.std.proofs.lemmas.List.{append_cancel_right}
 use Rattle.std.proofs.lemmas.Fmt.{decimal_injective, length-decimal-le}
 use Rattle.serde_json.proofs.OnLiterals.{serde_json_on_literals}
 use Rattle.serde_json.specs.Written.{compact_text}
@@ -21,7 +21,7 @@ use Rattle.server_state.specs.Alone.{one_desk, part_of, seen_by_desk, waiting_of
 use Rattle.server_state.specs.Desks.{refusal_frame, submit_frame}
 use Rattle.server_state.specs.Histories.{ServerEvent, Happens}
 use Rattle.server_state.specs.Keyed.{AreKeyed, event_key, frame_of_event, none_yet as none_keyed, one_taken, none_taken, one_again as again_keyed, other as none_asked}
-use Rattle.server_state.specs.Results.{AreKnown, IsNewKey, IsNewSubmit, IsSubmit, IsSubmitRefusal, Itself, KnownJob, NoneHas, Over, QueriesJob, SendsAgain, TakesNoJob, event_query, none_yet, one_more, no_more, one_again}
+use Rattle.server_state.specs.Results.{AreKnown, IsNewKey, IsNewSubmit, IsSubmit, IsSubmitRefusal, Itself, KnownJob, NoneHas, Over, SendsAgain, TakesNoJob, none_yet, one_more, no_more, one_again}
 use Rattle.server_state.specs.States.{DeskState, JobsSteps, ServerState}
 use Rattle.server_state.proofs.AloneLemmas.{each_alone}
 use Rattle.server_state.proofs.KnownLemmas.{Known, known_asked, known_aside, known_ended, known_lost}

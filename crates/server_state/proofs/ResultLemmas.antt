@@ -1,7 +1,6 @@
 -- What is sent for a result is that of the very job whose submit was sent its number.
-use Rattle.std.proofs.Common.{◌≡◌, ◌≢◌, ◌⊎◌, ◌+◌, ◌-◌, ◌<◌, ◌≤◌, ◌==◌, ℕ, zero, suc, Bool, true, false, nat_eq, List, [], ◌∷◌, ◌++◌, length, slice_get, Option, Some, None, Result, Ok, Err, refl, sym, ap, subst, ◌∙◌, inl, inr, arith}
+use Rattle.std.proofs.Common.{◌≡◌, ◌≢◌, ◌⊎◌, ◌+◌, ◌-◌, ◌<◌, ◌≤◌, ℕ, zero, suc, Bool, true, false, List, [], ◌∷◌, ◌++◌, length, slice_get, Option, Some, None, Result, Ok, Err, refl, sym, ap, subst, ◌∙◌, inl, inr, arith}
 use Rattle.std.proofs.lemmas.Bool.{cases_lt}
-use Rattle.std.proofs.lemmas.Bool.Decides.{nat_tests}
 use Rattle.serde_json.specs.Data.{Data}
 use Rattle.credit_book.specs.declared.book.Report.{Report}
 use Rattle.accounts.specs.declared.keep_limits.KeepLimits.{KeepLimits}
@@ -19,10 +18,10 @@ use Rattle.server_state.specs.declared.job_id.JobId.{JobId}
 use Rattle.server_state.specs.Alone.{Others, no_step, one_start, one_look, one_end, no_end, at_home, is_of, one_desk, part_of, put_if, seen_by_desk, waiting_of}
 use Rattle.server_state.specs.Histories.{ServerEvent, was_asked, has_ended, Happens}
 use Rattle.server_state.specs.Keyed.{frame_of_event, none_yet as none_keyed}
-use Rattle.server_state.specs.Results.{AreKnown, AreKnownAtFirst, AsksForResult, ComesFromSubmit, IsHeld, IsKnownAs, IsResultFrame, IsResultKnown, IsSubmit, IsSubmittedBefore, IsToldKnown, Itself, KnownJob, MayBeForgotten, Over, RunsJobs, WasReported, failed, forgotten, known_at, no_more, none_yet, not_over, one_again, one_more, outcome_told, over_standing, report_data, reported, unknown, was_over}
+use Rattle.server_state.specs.Results.{AreKnown, AreKnownAtFirst, AsksForResult, ComesFromSubmit, IsHeld, IsKnownAs, IsResultFrame, IsResultKnown, IsSubmit, IsSubmittedBefore, IsToldKnown, Itself, KnownJob, Over, RunsJobs, WasReported, failed, forgotten, known_at, no_more, none_yet, not_over, one_again, one_more, outcome_told, over_standing, reported, unknown, was_over}
 use Rattle.server_state.specs.States.{DeskState, JobsSteps, ServerState, id_at}
 use Rattle.server_state.proofs.AloneLemmas.{each_alone}
-use Rattle.server_state.proofs.HistoryStands.{AreAtHome, IsAtHome, RunsNumbers, Stood, home_before, home_last, known_is, stood_aside, stood_asked, stood_begun, stood_ended, stood_none}
+use Rattle.server_state.proofs.HistoryStands.{AreAtHome, RunsNumbers, Stood, home_before, home_last, known_is, stood_aside, stood_asked, stood_begun, stood_ended, stood_none}
 use Rattle.server_state.proofs.ListEnds.{get_past, get_within, joined_again, within_get}
 use Rattle.server_state.proofs.Moments.{moment}
 use Rattle.server_state.proofs.ReplyFrames.{third, third_of_refused, third_of_result}

@@ -1,12 +1,11 @@
 -- The result of a job that is over is sent as it was, until the job is forgotten.
-use Rattle.std.proofs.Common.{◌≡◌, ◌⊎◌, ℕ, Bool, true, false, List, [], ◌∷◌, ◌++◌, nat_lt, if◌then◌else◌, Ok, Result, slice_get, Some, refl, sym, ap, subst, ◌∙◌, inl, inr, arith}
+use Rattle.std.proofs.Common.{◌≡◌, ℕ, List, [], ◌∷◌, ◌++◌, nat_lt, if◌then◌else◌, Ok, slice_get, Some, refl, sym, ap, subst, ◌∙◌, inl, inr}
 use Rattle.job_core.specs.Admitted.{AdmittedJob}
 use Rattle.accounts.specs.Ledgers.{Ledger, report_at}
 use Rattle.accounts.specs.declared.keep_limits.KeepLimits.{KeepLimits}
-use Rattle.sessions.specs.Grammar.{Asked, result}
+use Rattle.sessions.specs.Grammar.{result}
 use Rattle.sessions.specs.Replies.{frame_of, frame_or_refusal, reply_data}
 use Rattle.sessions.specs.declared.reply.Reply.{Reply}
-use Rattle.sessions.specs.declared.reply.Reply.TheVariants as reply
 use Rattle.streams.specs.Answering as plainly
 use Rattle.streams.specs.Answering.{report_told, refused}
 use Rattle.server_state.specs.declared.access.Access.{Access}

@@ -16,7 +16,7 @@ use Rattle.accounts.specs.Ledgers.{Ledger, Finishes, report_at, report_in, Keeps
 use Rattle.accounts.specs.Forgetting.{ForgetsJobs}
 use Rattle.sessions.specs.Grammar.{Asked, grant, account, submit, status, result}
 use Rattle.sessions.specs.JobKeys.{job_among}
-use Rattle.sessions.specs.Replies.{reply_data, frame_or_refusal}
+use Rattle.sessions.specs.Replies.{reply_data}
 use Rattle.streams.specs.Passing.{Notes}
 use Rattle.streams.specs.Answering as plainly
 use Rattle.streams.specs.Answering.{Grants, GrantsNone, Settles, Submits, report_told, refused}

@@ -14,18 +14,17 @@ use Rattle.accounts.specs.declared.jobs.JobStanding.{JobStanding}
 use Rattle.accounts.specs.declared.jobs.JobStanding.TheVariants.{Open, Reported, Failed}
 use Rattle.accounts.specs.declared.keep_limits.KeepLimits.{KeepLimits}
 use Rattle.sessions.specs.Frames.{framed}
-use Rattle.sessions.specs.Grammar.{Asked, grant, account, submit, status, result, program_asked}
+use Rattle.sessions.specs.Grammar.{Asked, submit, result, program_asked}
 use Rattle.sessions.specs.JobKeys.{job_among, latest}
 use Rattle.sessions.specs.Replies.{frame_or_refusal, result_data}
 use Rattle.sessions.specs.declared.job_key.KeyedJob.{KeyedJob}
 use Rattle.streams.specs.Answering.{refused, submit_refused}
-use Rattle.server_state.specs.declared.access.Access.{Access}
 use Rattle.server_state.specs.declared.job_id.JobId.{JobId}
 use Rattle.server_state.specs.Desks.{refusal_frame, submit_frame}
 use Rattle.server_state.specs.Histories.{ServerEvent, was_asked, has_ended}
 use Rattle.server_state.specs.Keyed.{AreKeyed, event_key, frame_of_event}
-use Rattle.server_state.specs.Queries.{Query, plain, keyed, jobs, counts}
-use Rattle.server_state.specs.States.{DeskState, JobsSteps, ServerState, id_at}
+use Rattle.server_state.specs.Queries.{Query, plain, keyed}
+use Rattle.server_state.specs.States.{DeskState, JobsSteps, id_at}
 
 -- ---- the runner
 

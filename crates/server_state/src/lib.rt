@@ -3,16 +3,16 @@
 
 mod access;
 mod change;
-mod job_id;
 mod job_ends;
+mod job_id;
 mod jobs;
 mod laws;
 mod result_laws;
 
 pub use access::Access;
 pub use change::{Change, Changes};
-pub use job_id::JobId;
 pub use job_ends::JobEnds;
+pub use job_id::JobId;
 pub use jobs::{Jobs, RefusedStart};
 pub use laws::{each_tenant_is_alone, one_key_one_job};
 pub use result_laws::{numbers_rise, results_come_from_submits, results_stay};
