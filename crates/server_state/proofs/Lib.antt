@@ -14,4 +14,5 @@ mod KnownLemmas
 mod NumberLemmas
 mod StandsFor
 mod HistoryStands
+mod RefusedResults
 mod ResultLemmas

@@ -1,5 +1,5 @@
 -- From a submit to its result: the meaning of the replies of a server that has one desk.
-use Rattle.std.specs.Prelude.{◌≡◌, ◌≢◌, ◌⊎◌, ◌≤◌, ◌+◌, ◌-◌, ℕ, List, [], ◌∷◌, ◌++◌, length, map, slice_get, nat_eq, if◌then◌else◌, Option, Some, None, Result, Ok, Err}
+use Rattle.std.specs.Prelude.{◌≡◌, ◌≢◌, ◌⊎◌, ◌≤◌, ◌<◌, ◌+◌, ◌-◌, ◌^◌, ℕ, List, [], ◌∷◌, ◌++◌, length, map, slice_get, nat_eq, if◌then◌else◌, Option, Some, None, Result, Ok, Err}
 use Rattle.serde_json.specs.Data.{Data}
 use Rattle.serde_json.specs.Written.{compact_text}
 use Rattle.credit_book.specs.declared.book.Report.{Report}
@@ -231,6 +231,16 @@ pub record IsToldKnown (ends : ℕ → AdmittedJob → Result Report ℕ → Typ
   pub told : Data
   pub sent : frame_of_event e ≡ frame_or_refusal told
   pub is_result : IsResultKnown ends refuses keep known number told
+
+-- A refusal that is sent in place of a result is one of those, with its cause. Or it is 65, for a
+-- report that no frame holds.
+pub record IsToldRefusal (ends : ℕ → AdmittedJob → Result Report ℕ → Type 0)
+    (refuses : ℕ → Type 0) (keep : KeepLimits) (keys : List KeyedJob) (first : List KnownJob)
+    (before : List ServerEvent) (number code : ℕ) : Type 0 where
+  pub known : List KnownJob
+  pub are : AreKnown keys first before known
+  pub is_result : ((cause : ℕ) × IsResultKnown ends refuses keep known number (refused cause)
+      × (cause < 2 ^ 64 → cause ≡ code)) ⊎ (code ≡ 65)
 
 -- the bytes are the frame of some result
 pub record IsResultFrame (frame : List ℕ) : Type 0 where

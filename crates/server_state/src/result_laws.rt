@@ -3,10 +3,10 @@
 ghost use Rattle.std.specs.Prelude.{◌≡◌, ◌⊎◌, ◌+◌, ◌-◌, ◌<◌, ◌^◌, ℕ, List, ◌∷◌, ◌++◌, length, Some, slice_get};
 ghost use Rattle.sessions.specs.JobKeys.{latest};
 ghost use Rattle.server_state.specs.Alone.{part_of, waiting_of};
-ghost use Rattle.server_state.specs.Desks.{submit_frame};
+ghost use Rattle.server_state.specs.Desks.{refusal_frame, submit_frame};
 ghost use Rattle.server_state.specs.Histories.{ServerEvent, Happens};
 ghost use Rattle.server_state.specs.Keyed.{frame_of_event};
-ghost use Rattle.server_state.specs.Results.{AreKnownAtFirst, AsksForResult, ComesFromSubmit, IsNewSubmit, IsResultFrame, IsSubmittedBefore, IsToldKnown, KnownJob, StaysSent, WasReported};
+ghost use Rattle.server_state.specs.Results.{AreKnownAtFirst, AsksForResult, ComesFromSubmit, IsNewSubmit, IsResultFrame, IsSubmittedBefore, IsToldKnown, IsToldRefusal, KnownJob, StaysSent, WasReported};
 ghost use Rattle.server_state.specs.States.{DeskState, ServerState, id_at, steps_of};
 
 use crate::job_ends::JobEnds;
@@ -54,6 +54,18 @@ pub fn results_come_from_submits<N: JobEnds>()
         → IsResultFrame (frame_of_event e)
         → ComesFromSubmit (λ n. N.ends (id_at place n)) known before number e
         ⊎ WasReported known number e }
+    ensures refused { (first s : ServerState N) (events : List ServerEvent) (place : ℕ)
+        (begun desk : DeskState)
+        → Happens (steps_of N.Jobs) first events s
+        → slice_get first.desks place ≡ Some begun → begun.keys ≡ latest begun.keys
+        → slice_get s.desks place ≡ Some desk → (known : List KnownJob)
+        → AreKnownAtFirst (λ r n. N.at r (id_at place n)) begun (waiting_of place first.waiting)
+        first.jobs known
+        → (before after : List ServerEvent) (e : ServerEvent) (number code : ℕ)
+        → part_of first.names place events ≡ before ++ e ∷ after → AsksForResult number e
+        → frame_of_event e ≡ refusal_frame code → code < 2 ^ 64
+        → IsToldRefusal (λ n. N.ends (id_at place n)) N.refuses first.keep begun.keys known before
+        number code }
     ensures adds_up { (place : ℕ) (known : List KnownJob) (before : List ServerEvent) (number : ℕ)
         (e : ServerEvent) (c : ComesFromSubmit (λ n. N.ends (id_at place n)) known before number e)
         (b : IsSubmittedBefore before number c.job)
