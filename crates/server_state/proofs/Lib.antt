@@ -5,3 +5,8 @@ mod HomeLemmas
 mod AloneLemmas
 mod OneDesk
 mod KeyedLemmas
+mod Traces
+mod AlikeDesks
+mod AlikeReplies
+mod AdmissionLemmas
+mod AlikeHistories

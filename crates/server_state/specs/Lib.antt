@@ -7,3 +7,4 @@ pub mod Histories
 pub mod Alone
 pub mod Changing
 pub mod Keyed
+pub mod AlikeEvents

@@ -1,9 +1,13 @@
 //! The laws of a server's histories.
 
 ghost use Rattle.std.specs.Prelude.{◌≡◌, ℕ, List, Some, slice_get};
+ghost use Rattle.job_core.specs.Admitted.{AdmittedJob};
+ghost use Rattle.accounts.specs.Limits.{keeps_all};
 ghost use Rattle.sessions.specs.JobKeys.{latest};
 ghost use Rattle.sessions.specs.declared.job_key.KeyedJob.{KeyedJob};
-ghost use Rattle.server_state.specs.Alone.{HasServerAlone, part_of};
+ghost use Rattle.server_state.specs.AlikeEvents.{EachTwo, HappensAlike, IsSentAlike};
+ghost use Rattle.server_state.specs.Alone.{HasServerAlone, one_desk, part_of};
+ghost use Rattle.server_state.specs.declared.job_id.JobId.{JobId};
 ghost use Rattle.server_state.specs.Histories.{ServerEvent, Happens};
 ghost use Rattle.server_state.specs.Keyed.{AreKeyed};
 ghost use Rattle.server_state.specs.States.{DeskState, ServerState, steps_of};
@@ -32,4 +36,16 @@ pub fn one_key_one_job<N: Jobs>()
         → (keyed_jobs : List KeyedJob)
         × AreKeyed begun.keys (part_of first.names place events) keyed_jobs
         × (desk.keys ≡ latest keyed_jobs) }
+{}
+
+/// A tenant is told nothing of others. Where the same happens at one first desk in two histories,
+/// the same is sent, or how far a job is. The same happens where the same is asked, the starts of
+/// its jobs come to the same, and its jobs end the same. Neither history forgets a report, or
+/// refuses for want of memory.
+pub fn others_are_not_told<N: Jobs>()
+    ensures { (begun : DeskState) (waiting others : List (JobId × AdmittedJob)) (r q : N)
+        (first second : List ServerEvent) (s t : ServerState N)
+        → Happens (steps_of N.Jobs) (one_desk keeps_all begun waiting r) first s
+        → Happens (steps_of N.Jobs) (one_desk keeps_all begun others q) second t
+        → EachTwo HappensAlike first second → EachTwo IsSentAlike first second }
 {}
