@@ -173,6 +173,13 @@ impl<Y: System> Listener<Y> {
         }
     }
 
+    /// The place of the endpoint that gave the last connection.
+    pub fn last_place(&self) -> usize
+        ensures { result ≡ self.now.1 }
+    {
+        self.last
+    }
+
     /// Waits for the next connection, and gives it with the access of the endpoint where it came;
     /// `None` where a host ended the wait. The endpoint that gave the last is asked last.
     pub fn accept<R: Wait>(

@@ -1,6 +1,6 @@
 //! The flag that stops a server.
 
-ghost use Rattle.std.specs.Prelude.{◌≡◌, IfSome, false, is_some};
+ghost use Rattle.std.specs.Prelude.{◌≡◌, IfSome};
 
 use std::sync::{OnceLock, OnceToken, Wait};
 
@@ -34,10 +34,5 @@ impl StopFlag {
         ensures { IfSome result (λ token. token.of ≡ self.now.raised.id) }
     {
         self.raised.witness()
-    }
-
-    /// Whether the flag was raised.
-    pub fn is_raised(&self) -> bool {
-        self.seen().is_some()
     }
 }

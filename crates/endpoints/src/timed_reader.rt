@@ -96,7 +96,11 @@ impl<R: Timer + Wait, S: TimedRead> Read for TimedReader<'_, R, S> {
         ensures timed { IsInTime R.tells R.fails self.old.rt.now S.reads S.failed
             (IsDueFor R.tells R.fails self.old.rt.now self.old.seconds self.old.frame self.old.due)
             self.old.watch.0 self.old.stream self.new.stream result }
-        ensures stopped { self.old.watch.1 ≡ true → (result ≡ Ok 0) × (self.new.stream ≡ self.old.stream) }
+        ensures gives { self.new.watch.1 ≡ false → ReadConsumes (S.remaining self.old.stream)
+            (S.remaining self.new.stream) result piece.new }
+        ensures stopped { self.new.watch.1 ≡ true → result ≡ Ok 0 }
+        ensures stays { self.old.watch.1 ≡ true
+            → (self.new.watch.1 ≡ true) × (self.new.stream ≡ self.old.stream) }
         ensures place { (self.new.frame ≡ self.old.frame) × (self.new.due ≡ self.old.due)
             × (self.new.seconds ≡ self.old.seconds) × (self.new.watch.0 ≡ self.old.watch.0) }
     {
