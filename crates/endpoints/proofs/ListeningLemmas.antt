@@ -80,7 +80,7 @@ module _ {S : Type 0} (listens_at : S → Place → Type 0) (admits : S → Sock
   one_listens (x ∷ es) (y ∷ ss) (suc n) (suc m) e s are at own more = (are.0, one_listens es ss n m e s are.1 at own (omega (arith, more)))
 
   -- a fault that names the endpoint that was refused
-  pub cannot_open : (refused : Place → Type 0) (closed : List S → Type 0) (es : List Endpoint) (n : ℕ) (error : Error) (fault : ListenFault) (ss : List S)
+  pub cannot_open : (refused : Place → Error → Type 0) (closed : List S → Type 0) (es : List Endpoint) (n : ℕ) (error : Error) (fault : ListenFault) (ss : List S)
       → IsRefusedEndpoint refused es n error → IfSome (slice_get es n) (λ e. fault.place ≡ e.place) → fault.error ≡ error
       → AreListening listens_at admits (take n es) ss → closed ss → CannotOpen listens_at admits refused closed es fault
   cannot_open refused closed es n error fault ss why named same ahead gone =
@@ -89,7 +89,7 @@ module _ {S : Type 0} (listens_at : S → Place → Type 0) (admits : S → Sock
         place = n;
         endpoint = why.endpoint;
         is = why.is;
-        why = subst (λ (e : Error). refused why.endpoint.place ⊎ (error_kind e ≡ OutOfMemory)) (sym same) why.why;
+        why = subst (λ (e : Error). refused why.endpoint.place e ⊎ (error_kind e ≡ OutOfMemory)) (sym same) why.why;
         named = there;
         sockets = ss;
         ahead = ahead;

@@ -11,12 +11,12 @@ use Rattle.endpoints.specs.declared.endpoint.Place.{Place}
 use Rattle.endpoints.specs.declared.endpoint.SocketMode.{SocketMode}
 use Rattle.endpoints.specs.declared.listen_fault.ListenFault.{ListenFault}
 
--- the endpoint at a place was refused, by the system or for want of memory
-pub record IsRefusedEndpoint (refused : Place → Type 0) (endpoints : List Endpoint) (place : ℕ)
+-- the endpoint at a place was refused by this, by the system or for want of memory
+pub record IsRefusedEndpoint (refused : Place → Error → Type 0) (endpoints : List Endpoint) (place : ℕ)
     (error : Error) : Type 0 where
   pub endpoint : Endpoint
   pub is : slice_get endpoints place ≡ Some endpoint
-  pub why : refused endpoint.place ⊎ (error_kind error ≡ ErrorKind.OutOfMemory)
+  pub why : refused endpoint.place error ⊎ (error_kind error ≡ ErrorKind.OutOfMemory)
 
 module _ {S : Type 0} (listens_at : S → Place → Type 0) (admits : S → SocketMode → Type 0) where
   -- The socket is that of an endpoint: it listens at its place, to those who may connect there.
@@ -56,12 +56,13 @@ module _ {S : Type 0} (listens_at : S → Place → Type 0) (admits : S → Sock
 
   -- A listener can't be opened at these endpoints. The first that can't be listened at is named, and
   -- what listened at those ahead of it was let go.
-  pub record CannotOpen (refused : Place → Type 0) (closed : List S → Type 0)
+  pub record CannotOpen (refused : Place → Error → Type 0) (closed : List S → Type 0)
       (endpoints : List Endpoint) (fault : ListenFault) : Type 0 where
     pub place : ℕ
     pub endpoint : Endpoint
     pub is : slice_get endpoints place ≡ Some endpoint
-    pub why : refused endpoint.place ⊎ (error_kind fault.error ≡ ErrorKind.OutOfMemory)
+    pub why : refused endpoint.place fault.error
+        ⊎ (error_kind fault.error ≡ ErrorKind.OutOfMemory)
     pub named : fault.place ≡ endpoint.place
     pub sockets : List S
     pub ahead : AreListening (take place endpoints) sockets

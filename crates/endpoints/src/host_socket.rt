@@ -59,7 +59,7 @@ impl Socket for HostSocket {
 
     ghost had_none = { λ _. Unit {0} };
 
-    ghost failed = { λ _. Unit {0} };
+    ghost failed = { λ _ _. Unit {0} };
 
     fn accept(&self) -> io::Result<Option<TcpStream>> {
         match accepted(&self.socket) {

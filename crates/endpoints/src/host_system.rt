@@ -83,13 +83,13 @@ impl HostSystem {
 impl System for HostSystem {
     type Socket = HostSocket;
 
-    ghost refused = { λ _. Unit {0} };
+    ghost refused = { λ _ _. Unit {0} };
 
     ghost closed = { λ _. Unit {0} };
 
     ghost was_woken = { Unit {0} };
 
-    ghost wait_failed = { Unit {0} };
+    ghost wait_failed = { λ _. Unit {0} };
 
     fn listen<R>(
         &mut self,

@@ -43,7 +43,12 @@ pub use timed_ends::{TimedRead, TimedWrite};
 pub use timed_reader::TimedReader;
 pub use timed_writer::TimedWriter;
 
-// the places that each endpoint has at most
+// the connections that are taken, and the places that each endpoint has at most
+mod entrance;
 mod shares;
 
+pub use entrance::{Entrance, TakenConnection};
 pub use shares::{MOST_TENANTS, Shares, TakenPlace, shares_of};
+
+#[cfg(test)]
+mod tests;

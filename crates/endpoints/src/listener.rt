@@ -54,15 +54,19 @@ where
         × (sockets.new.items ≡ sockets.old.items ++ socket ∷ [])
         × IsSocketOf Y.Socket.listens_at Y.Socket.admits socket endpoint.now) }
     ensures same { OnErr result (sockets.new.items ≡ sockets.old.items) }
-    ensures refused { IfErr result (λ error. Y.refused endpoint.now.place
+    ensures refused { IfErr result (λ error. Y.refused endpoint.now.place error
         ⊎ (error_kind error ≡ ErrorKind.OutOfMemory)) }
 {
     let Ok(()) = sockets.try_reserve(1) else {
         return Err(io::Error::from(ErrorKind::OutOfMemory));
     };
-    let socket = system.listen(rt, alloc, &endpoint.place, endpoint.mode())?;
-    sockets.push_reserved(socket);
-    Ok(())
+    match system.listen(rt, alloc, &endpoint.place, endpoint.mode()) {
+        Ok(socket) => {
+            sockets.push_reserved(socket);
+            Ok(())
+        }
+        Err(error) => Err(error),
+    }
 }
 
 // Listens at all of the endpoints, one after the other, up to the first at which it can't. Gives the
@@ -161,15 +165,16 @@ impl<Y: System> Listener<Y> {
         ensures fair { IfOk result (λ found. IfSome found (λ _. GaveInTurn Y.Socket.listens_at
             Y.Socket.admits Y.Socket.had_none self.new.0 self.old.1 self.new.1)) }
         ensures none { IfOk result (λ found. IfNone found (self.new.1 ≡ self.old.1)) }
-        ensures failed { OnErr result ((place : ℕ) × WasAsked Y.Socket.listens_at Y.Socket.admits
-            Y.Socket.failed self.new.0 place) }
+        ensures failed { IfErr result (λ error. (place : ℕ) × WasAsked Y.Socket.listens_at
+            Y.Socket.admits (λ s. Y.Socket.failed s error) self.new.0 place) }
     {
-        match ask_in_turn(&self.sockets, self.last)? {
-            Some((place, stream)) => {
+        match ask_in_turn(&self.sockets, self.last) {
+            Ok(Some((place, stream))) => {
                 self.last = place;
                 Ok(Some((stream, self.endpoints[place].access)))
             }
-            None => Ok(None),
+            Ok(None) => Ok(None),
+            Err(error) => Err(error),
         }
     }
 
@@ -192,15 +197,23 @@ impl<Y: System> Listener<Y> {
         ensures fair { IfOk result (λ found. IfSome found (λ _. GaveInTurn Y.Socket.listens_at
             Y.Socket.admits Y.Socket.had_none self.new.0 self.old.1 self.new.1)) }
         ensures woken { IfOk result (λ found. IfNone found Y.was_woken) }
-        ensures failed { OnErr result (Y.wait_failed ⊎ ((place : ℕ) × WasAsked Y.Socket.listens_at
-            Y.Socket.admits Y.Socket.failed self.new.0 place)) }
+        ensures failed { IfErr result (λ error. Y.wait_failed error ⊎ ((place : ℕ)
+            × WasAsked Y.Socket.listens_at Y.Socket.admits (λ s. Y.Socket.failed s error)
+            self.new.0 place)) }
     {
         'waiting: for _ in rt.forever() {
-            if let Some(came) = self.ask()? {
-                return Ok(Some(came));
+            match self.ask() {
+                Ok(Some(came)) => return Ok(Some(came)),
+                Ok(None) => {}
+                Err(error) => return Err(error),
             }
-            if self.system.wait()? {
-                return Ok(None);
+            match self.system.wait() {
+                Ok(woken) => {
+                    if woken {
+                        return Ok(None);
+                    }
+                }
+                Err(error) => return Err(error),
             }
         }
         unreachable!()

@@ -1,7 +1,7 @@
 //! The places that each endpoint of a server has at most.
 
-ghost use Rattle.std.specs.Prelude.{◌≡◌, ◌≤◌, ◌+◌, ◌/◌, IfNone, IfOk, IfSome, replicate};
-ghost use Rattle.endpoints.specs.Places.{HasPlaceLeft, one_fewer_at, one_more_at};
+ghost use Rattle.std.specs.Prelude.{◌≡◌, IfNone, IfOk, IfSome, replicate};
+ghost use Rattle.endpoints.specs.Places.{HasPlaceLeft, one_fewer_at, one_more_at, shares_for};
 
 use refusal::NoMemory;
 use std::alloc::Global;
@@ -74,8 +74,7 @@ impl Shares {
 /// are none where there are no tenants, or less than two places for each endpoint: a client that comes
 /// again finds its last connection still there.
 pub fn shares_of(alloc: Global, places: u32, tenants: usize) -> Result<Option<Shares>, NoMemory>
-    ensures { IfOk result (λ shares. IfSome shares (λ s. (1 ≤ tenants) × (2 ≤ s.0)
-        × (s ≡ (places / (tenants + 2), replicate (tenants + 2) 0)))) }
+    ensures { IfOk result (λ shares. shares ≡ shares_for places tenants) }
 {
     if tenants == 0 || tenants > MOST_TENANTS {
         return Ok(None);

@@ -1,6 +1,6 @@
 //! Sockets that are asked for a connection in turn.
 
-ghost use Rattle.std.specs.Prelude.{◌≡◌, ◌<◌, ◌≤◌, ◌+◌, IfErr, IfNone, IfOk, IfSome, OnErr, Some, length, slice_get};
+ghost use Rattle.std.specs.Prelude.{◌≡◌, ◌<◌, ◌≤◌, ◌+◌, IfErr, IfNone, IfOk, IfSome, Some, length, slice_get};
 ghost use Rattle.endpoints.specs.Turns.{FailedOne, SocketGave, HadNoneBetween, IsFairTurn};
 
 use crate::socket::Socket;
@@ -18,14 +18,15 @@ fn ask_between<S: Socket>(
         × HadNoneBetween S.had_none sockets.now first came.0)) }
     ensures none { IfOk result (λ found. IfNone found
         (HadNoneBetween S.had_none sockets.now first end)) }
-    ensures failed { OnErr result (FailedOne S.failed sockets.now) }
+    ensures failed { IfErr result (λ error. FailedOne (λ s. S.failed s error) sockets.now) }
 {
     let mut place = first;
     'asking: while place < end {
-        if let Some(stream) = sockets[place].accept()? {
-            return Ok(Some((place, stream)));
+        match sockets[place].accept() {
+            Ok(Some(stream)) => return Ok(Some((place, stream))),
+            Ok(None) => place += 1,
+            Err(error) => return Err(error),
         }
-        place += 1;
     }
     Ok(None)
 }
@@ -40,11 +41,12 @@ pub(crate) fn ask_in_turn<S: Socket>(
         (λ came. SocketGave S.gave sockets.now came.0 came.1)) }
     ensures fair { IfOk result (λ found. IfSome found
         (λ came. IsFairTurn S.had_none sockets.now last came.0)) }
-    ensures failed { OnErr result (FailedOne S.failed sockets.now) }
+    ensures failed { IfErr result (λ error. FailedOne (λ s. S.failed s error) sockets.now) }
 {
     let behind = last.saturating_add(1).min(sockets.len());
-    if let Some(came) = ask_between(sockets, behind, sockets.len())? {
-        return Ok(Some(came));
+    match ask_between(sockets, behind, sockets.len()) {
+        Ok(Some(came)) => Ok(Some(came)),
+        Ok(None) => ask_between(sockets, 0, behind),
+        Err(error) => Err(error),
     }
-    ask_between(sockets, 0, behind)
 }
