@@ -1,4 +1,4 @@
-//! Where a server listens.
+//! The addresses of ports.
 
 ghost use Rattle.endpoints.specs.Addresses.{IsLoopback};
 

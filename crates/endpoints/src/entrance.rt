@@ -1,4 +1,4 @@
-//! Where a server takes its connections.
+//! The entrance of a server, where its connections are taken.
 
 ghost use Rattle.std.specs.Prelude.{◌≡◌, ◌≤◌, ◌+◌, ◌⊎◌, ℕ, false, IfErr, IfNone, IfOk, IfSome, is_some};
 ghost use Rattle.endpoints.specs.Listening.{CameBy, WasAsked};

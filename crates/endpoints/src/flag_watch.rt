@@ -35,7 +35,7 @@ impl<'a> FlagWatch<'a> {
         FlagWatch { flag, seen: None }
     }
 
-    /// Whether there is a flag.
+    /// True where there is a flag.
     pub fn may_stop(&self) -> bool
         ensures { result ≡ self.entry.now.0 }
     {

@@ -68,7 +68,7 @@ impl HostSystem {
         Ok(Arc::try_clone(&self.waker)?)
     }
 
-    // Whether the last wait was ended by the waker.
+    // True where the waker ended the last wait.
     fn is_woken(&self) -> bool {
         for event in self.events.iter() {
             if event.token() == WAKE {

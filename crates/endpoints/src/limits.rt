@@ -11,43 +11,45 @@ use std::io;
 use std::io::ErrorKind;
 use std::time::{Clock, Duration, Instant};
 
-// How many milliseconds a try waits until it looks at a flag.
+// The milliseconds that a try waits until it looks at a flag.
 const LOOK: u64 = 200;
 
-/// Tells the time.
-pub trait Timer {
-    // It told this time.
-    ghost tells: { Self → Instant → Type 0 };
+/// Tells the time while a stream is in a state. So contracts know that a time was told since the
+/// stream came to it.
+pub trait Timer<S> {
+    // It told this time, in this state of a stream.
+    ghost tells: { Self → S → Instant → Type 0 };
 
-    // It could not tell the time.
-    ghost fails: { Self → Type 0 };
+    // It could not tell the time in this state.
+    ghost fails: { Self → S → Type 0 };
 
     /// The time now.
-    fn now(&self) -> io::Result<Instant>
-        ensures tells { IfOk result (λ now. tells self.now now × FitsClock (instant_nanos now)) }
-        ensures fails { OnErr result (fails self.now) };
+    fn now(&self, stream: &S) -> io::Result<Instant>
+        ensures tells { IfOk result (λ now. tells self.now stream.now now
+            × FitsClock (instant_nanos now)) }
+        ensures fails { OnErr result (fails self.now stream.now) };
 }
 
 /// The system's clock, of whose time no contract knows anything.
-impl<R: Clock> Timer for R {
-    ghost tells = { λ _ _. Unit {0} };
+impl<R: Clock, S> Timer<S> for R {
+    ghost tells = { λ _ _ _. Unit {0} };
 
-    ghost fails = { λ _. Unit {0} };
+    ghost fails = { λ _ _. Unit {0} };
 
-    fn now(&self) -> io::Result<Instant> {
+    fn now(&self, _stream: &S) -> io::Result<Instant> {
         Instant::now(self)
     }
 }
 
-/// When something is due that has so many seconds from now on. 0: never. Nor is it where the clock
-/// fails, or doesn't count so far.
-pub(crate) fn due_in<R: Timer>(rt: &R, seconds: u32) -> Option<Instant>
-    ensures { IsDueIn R.tells R.fails rt.now seconds result }
+/// The time by which something is due that has so many seconds from now on. 0: none. Nor is there one
+/// where the clock fails, or doesn't count so far.
+pub(crate) fn due_in<R: Timer<S>, S>(rt: &R, stream: &S, seconds: u32) -> Option<Instant>
+    ensures { IsDueIn R.tells R.fails rt.now stream.now seconds result }
 {
     if seconds == 0 {
         return None;
     }
-    match rt.now() {
+    match rt.now(stream) {
         Ok(now) => now.checked_add(Duration::from_secs(u64::from(seconds))),
         Err(_) => None,
     }
@@ -55,15 +57,20 @@ pub(crate) fn due_in<R: Timer>(rt: &R, seconds: u32) -> Option<Instant>
 
 /// The time that is left until something is due, if it is due at any time. `TimedOut` once none is
 /// left, or where the clock fails.
-pub(crate) fn left_until<R: Timer>(rt: &R, due: Option<Instant>) -> io::Result<Option<Duration>>
-    ensures left { IfOk result (λ left. IsTimeLeft R.tells rt.now due (option_map as_nanos left)) }
-    ensures over { IfErr result (λ error. IsOver R.tells R.fails rt.now due
+pub(crate) fn left_until<R: Timer<S>, S>(
+    rt: &R,
+    stream: &S,
+    due: Option<Instant>,
+) -> io::Result<Option<Duration>>
+    ensures left { IfOk result (λ left. IsTimeLeft R.tells rt.now stream.now due
+        (option_map as_nanos left)) }
+    ensures over { IfErr result (λ error. IsOver R.tells R.fails rt.now stream.now due
         × (error_kind error ≡ ErrorKind.TimedOut)) }
 {
     let Some(due) = due else {
         return Ok(None);
     };
-    let Ok(now) = rt.now() else {
+    let Ok(now) = rt.now(stream) else {
         return Err(io::Error::from(ErrorKind::TimedOut));
     };
     match due.checked_duration_since(now) {

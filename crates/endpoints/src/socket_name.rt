@@ -14,7 +14,7 @@ const OF_FOLDER: u32 = 0o700;
 
 const OF_OWNERS_SOCKET: u32 = 0o600;
 
-// What others may do in a folder.
+// The permissions of others in a folder.
 const OF_OTHERS: u32 = 0o077;
 
 // The folder `PATH~`, which its owner alone enters. Who holds it may give the path to a socket or take
@@ -38,7 +38,7 @@ fn in_use() -> io::Error {
     io::Error::from(ErrorKind::AddrInUse)
 }
 
-// Whether this is a folder of the user who runs the program, which nobody else may enter.
+// True of a folder of the user who runs the program, which nobody else may enter.
 fn is_own_folder<R: Files>(rt: &R, folder: &fs::Metadata) -> io::Result<bool> {
     let user = fs::metadata(rt, "/proc/self")?.uid();
     Ok(folder.is_dir() && folder.uid() == user && folder.mode() & OF_OTHERS == 0)
@@ -82,7 +82,7 @@ fn let_go<R: Files>(rt: &R, folder: LockedFolder) {
     let _ = fs::remove_dir(rt, &folder.path);
 }
 
-// Whether a socket stands at a path on which nobody listens.
+// True where a socket stands at a path on which nobody listens.
 fn is_dead<R: Files + Net>(rt: &R, path: &str) -> bool {
     match UnixStream::connect(rt, path) {
         Ok(_) => false,

@@ -6,7 +6,7 @@ use std::io::{ErrorKind, Read, Write};
 use std::net::TcpStream;
 use std::time::Duration;
 
-// Whether the system says by this that the peer has let a connection go.
+// True where the system says by this that the peer has let a connection go.
 fn is_reset(error: &io::Error) -> bool {
     matches!(
         error.kind(),

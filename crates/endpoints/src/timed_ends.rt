@@ -29,14 +29,14 @@ pub trait TimedRead {
         ensures tried { reads self.old (option_map as_nanos wait) self.new }
         ensures failed { IfErr result (λ error. failed (error_kind error)) };
 
-    /// Whether a read failed by this since the peer has let the connection go: no byte is left then.
+    /// True where a read failed by this since the peer has let the connection go: no byte is left.
     fn was_let_go(&self, error: &io::Error) -> bool
         ensures { result ≡ true → IsAtEnd (remaining self.now) };
 }
 
 /// An end that is written.
 pub trait TimedWrite {
-    // What was written, where that is known.
+    // The bytes that were written, where they are known.
     ghost contents: { Self → Option (List ℕ) };
 
     // One try to write, from a state to the next, that waited so many nanoseconds at most; none: any
@@ -54,7 +54,7 @@ pub trait TimedWrite {
         ensures tried { writes self.old (option_map as_nanos wait) self.new }
         ensures failed { IfErr result (λ error. failed (error_kind error)) };
 
-    /// Whether a write failed by this since the peer has let the connection go: nobody has what is
+    /// True where a write failed by this since the peer has let the connection go: nobody has what is
     /// written there.
     fn was_let_go(&self, error: &io::Error) -> bool
         ensures { result ≡ true → contents self.now ≡ None };

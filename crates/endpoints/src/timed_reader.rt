@@ -53,39 +53,40 @@ impl<'a, R, S> TimedReader<'a, R, S> {
     }
 }
 
-impl<R: Timer, S: TimedRead> TimedReader<'_, R, S> {
+impl<R: Timer<S>, S: TimedRead> TimedReader<'_, R, S> {
     /// Tells where the stream stands: within the frame of this number, or between frames. The time of
     /// a frame begins here, and once.
     pub fn at(&mut self, frame: Option<u64>)
         ensures frame { self.new.frame ≡ frame }
         ensures same { frame ≡ self.old.frame → self.new.due ≡ self.old.due }
         ensures begun { frame ≢ self.old.frame → IfSome frame
-            (λ _. IsDueIn R.tells R.fails self.old.rt.now self.old.seconds self.new.due) }
+            (λ _. IsDueIn R.tells R.fails self.old.rt.now self.old.stream self.old.seconds
+            self.new.due) }
         ensures others { (self.new.stream ≡ self.old.stream) × (self.new.rt ≡ self.old.rt)
             × (self.new.seconds ≡ self.old.seconds) × (self.new.watch ≡ self.old.watch) }
     {
         if frame != self.frame {
             self.due = match frame {
-                Some(_) => due_in(self.rt, self.seconds),
+                Some(_) => due_in(self.rt, &self.stream, self.seconds),
                 None => None,
             };
             self.frame = frame;
         }
     }
 
-    // When what is waited for now has to be there: the rest of a frame by that frame's time.
+    // The time by which what is waited for has to be there: the rest of a frame has that frame's.
     fn due(&self) -> Option<Instant>
-        ensures { IsDueFor R.tells R.fails self.entry.now.rt.now self.entry.now.seconds
-            self.entry.now.frame self.entry.now.due result }
+        ensures { IsDueFor R.tells R.fails self.entry.now.rt.now self.entry.now.stream
+            self.entry.now.seconds self.entry.now.frame self.entry.now.due result }
     {
         match self.frame {
             Some(_) => self.due,
-            None => due_in(self.rt, self.seconds),
+            None => due_in(self.rt, &self.stream, self.seconds),
         }
     }
 }
 
-impl<R: Timer + Wait, S: TimedRead> Read for TimedReader<'_, R, S> {
+impl<R: Timer<S> + Wait, S: TimedRead> Read for TimedReader<'_, R, S> {
     ghost remaining = { λ r. left_unless_stopped r.watch.0 (S.remaining r.stream) };
 
     fn read(&mut self, piece: &mut [u8]) -> io::Result<usize>
@@ -94,8 +95,8 @@ impl<R: Timer + Wait, S: TimedRead> Read for TimedReader<'_, R, S> {
             (left_unless_stopped self.new.watch.0 (S.remaining self.new.stream)) result piece.new }
         ensures retried { IfErr result (λ error. error_kind error ≢ ErrorKind.Interrupted) }
         ensures timed { IsInTime R.tells R.fails self.old.rt.now S.reads S.failed
-            (IsDueFor R.tells R.fails self.old.rt.now self.old.seconds self.old.frame self.old.due)
-            self.old.watch.0 self.old.stream self.new.stream result }
+            (IsDueFor R.tells R.fails self.old.rt.now self.old.stream self.old.seconds self.old.frame
+            self.old.due) self.old.watch.0 self.old.stream self.new.stream result }
         ensures gives { self.new.watch.1 ≡ false → ReadConsumes (S.remaining self.old.stream)
             (S.remaining self.new.stream) result piece.new }
         ensures stopped { self.new.watch.1 ≡ true → result ≡ Ok 0 }
@@ -110,7 +111,7 @@ impl<R: Timer + Wait, S: TimedRead> Read for TimedReader<'_, R, S> {
             if self.watch.is_up() {
                 return Ok(0);
             }
-            let wait = wait_of(left_until(rt, due)?, self.watch.may_stop());
+            let wait = wait_of(left_until(rt, &self.stream, due)?, self.watch.may_stop());
             match self.stream.read_within(piece, wait) {
                 Ok(count) => return Ok(count),
                 Err(error) => {

@@ -44,19 +44,19 @@ impl<'a, R, S> TimedWriter<'a, R, S> {
     }
 }
 
-impl<R: Timer, S> TimedWriter<'_, R, S> {
-    // When what is written now has to be taken: the rest of what was begun by its own time.
+impl<R: Timer<S>, S> TimedWriter<'_, R, S> {
+    // The time by which what is written now has to be taken: the rest of what was begun has its own.
     fn due(&self) -> Option<Instant>
-        ensures { IsDueForRest R.tells R.fails self.entry.now.rt.now self.entry.now.seconds
-            self.entry.now.due result }
+        ensures { IsDueForRest R.tells R.fails self.entry.now.rt.now self.entry.now.stream
+            self.entry.now.seconds self.entry.now.due result }
     {
         match self.due {
             Some(due) => Some(due),
-            None => due_in(self.rt, self.seconds),
+            None => due_in(self.rt, &self.stream, self.seconds),
         }
     }
 
-    // How many bytes of so many one try has.
+    // The number of bytes, of so many, that one try has.
     fn part_of(&self, len: usize) -> usize
         ensures { result ≤ len }
     {
@@ -68,7 +68,7 @@ impl<R: Timer, S> TimedWriter<'_, R, S> {
     }
 }
 
-impl<R: Timer + Wait, S: TimedWrite> Write for TimedWriter<'_, R, S> {
+impl<R: Timer<S> + Wait, S: TimedWrite> Write for TimedWriter<'_, R, S> {
     ghost contents = { λ w. S.contents w.stream };
 
     fn write(&mut self, piece: &[u8]) -> io::Result<usize>
@@ -77,10 +77,10 @@ impl<R: Timer + Wait, S: TimedWrite> Write for TimedWriter<'_, R, S> {
             piece.now }
         ensures retried { IfErr result (λ error. error_kind error ≢ ErrorKind.Interrupted) }
         ensures timed { IsInTime R.tells R.fails self.old.rt.now S.writes S.failed
-            (IsDueForRest R.tells R.fails self.old.rt.now self.old.seconds self.old.due) false
-            self.old.stream self.new.stream result }
+            (IsDueForRest R.tells R.fails self.old.rt.now self.old.stream self.old.seconds
+            self.old.due) false self.old.stream self.new.stream result }
         ensures rest { IfOk result (λ count. count < length piece.now → IsDueForRest R.tells R.fails
-            self.old.rt.now self.old.seconds self.old.due self.new.due) }
+            self.old.rt.now self.old.stream self.old.seconds self.old.due self.new.due) }
         ensures whole { IfOk result (λ count. length piece.now ≤ count → self.new.due ≡ None) }
         ensures seconds { self.new.seconds ≡ self.old.seconds }
     {
@@ -88,7 +88,8 @@ impl<R: Timer + Wait, S: TimedWrite> Write for TimedWriter<'_, R, S> {
         let due = self.due();
         let part = &piece[..self.part_of(piece.len())];
         'trying: for _ in rt.forever() {
-            match self.stream.write_within(part, left_until(rt, due)?) {
+            let left = left_until(rt, &self.stream, due)?;
+            match self.stream.write_within(part, left) {
                 Ok(count) => {
                     self.due = if count < piece.len() { due } else { None };
                     return Ok(count);

@@ -37,7 +37,7 @@ returns-in_default g c =
     let more = one_more g.R.Timer.tells c.args.self.now.rt.now g.S.TimedRead.reads c.due-due.result c.args.self.now.watch.0 c.may_stop.result c.args.self.now.stream c.trying.self.stream c.read_within.new.self
     (option_map as_nanos c.in_ok-left_until.field-0) (option_map as_nanos c.wait_of-wait.result) c.trying.invariant.tried c.in_ok-left_until.ensures.left c.wait_of-wait.ensures flag c.read_within.ensures.tried in
     let timed : IsInTime g.R.Timer.tells g.R.Timer.fails c.args.self.now.rt.now g.S.TimedRead.reads g.S.TimedRead.failed
-    (IsDueFor g.R.Timer.tells g.R.Timer.fails c.args.self.now.rt.now c.args.self.now.seconds c.args.self.now.frame c.args.self.now.due)
+    (IsDueFor g.R.Timer.tells g.R.Timer.fails c.args.self.now.rt.now c.args.self.now.stream c.args.self.now.seconds c.args.self.now.frame c.args.self.now.due)
     c.args.self.now.watch.0 c.args.self.now.stream c.read_within.new.self (Err c.in-Err.error) =
     record { due = c.due-due.result; is = c.due-due.ensures; tried = more; error = inr c.in-Err.ensures.failed } in
     search (rules, timed)
