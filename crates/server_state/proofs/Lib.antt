@@ -1,0 +1,7 @@
+mod ListLemmas
+mod PartLemmas
+mod DeskLemmas
+mod HomeLemmas
+mod AloneLemmas
+mod OneDesk
+mod KeyedLemmas

@@ -2,9 +2,13 @@
 #![tactic(auto)]
 
 mod access;
+mod change;
 mod job_id;
 mod jobs;
+mod laws;
 
 pub use access::Access;
+pub use change::{Change, Changes};
 pub use job_id::JobId;
 pub use jobs::{Jobs, RefusedStart};
+pub use laws::{each_tenant_is_alone, one_key_one_job};

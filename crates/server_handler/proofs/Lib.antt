@@ -1,0 +1,9 @@
+mod Among
+mod Made
+pub mod OwnLemmas
+mod Recorded
+mod Replied
+mod Settled
+mod Shared
+mod Starts
+mod Waiting
