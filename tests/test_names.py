@@ -33,6 +33,7 @@ EXCEPTIONS = {
     "cost_at": ("machine_model verifier", SAME),
     "end_bits": ("insn_codec machine_model", SAME),
     "Endpoint": ("bpfjobs_cli endpoints", "where a command says that it listens, and where a server does"),
+    "Entrance": ("endpoints job_server", GOES),
     "fault_at": ("flow_graph insn_codec", SAME),
     "IsAlive": ("credit_book machine_model", SAME),
     "IsComplete": ("credit_book machine_model", SAME),
