@@ -1,5 +1,6 @@
 -- Sockets that listen, each for its endpoint.
 use Rattle.std.proofs.Common.{◌≡◌, ◌<◌, ◌+◌, ◌⊎◌, ℕ, zero, suc, List, [], ◌∷◌, ◌++◌, length, take, slice_get, Some, refl, sym, subst, arith}
+use Rattle.std.proofs.lemmas.Option.{slice_get_within}
 use Rattle.std.specs.Prelude.{IfSome}
 use Rattle.std.specs.IoError.{error_kind}
 use Rattle.std.specs.declared.io.Error.{Error}
@@ -8,8 +9,8 @@ use Rattle.endpoints.specs.declared.endpoint.Endpoint.{Endpoint}
 use Rattle.endpoints.specs.declared.endpoint.Place.{Place}
 use Rattle.endpoints.specs.declared.endpoint.SocketMode.{SocketMode}
 use Rattle.endpoints.specs.declared.listen_fault.ListenFault.{ListenFault}
-use Rattle.endpoints.specs.Listening.{AreListening, CameBy, CannotOpen, GaveInTurn, IsRefusedEndpoint, IsSocketOf, WasAsked}
-use Rattle.endpoints.specs.Turns.{FailedOne, SocketGave, IsFairTurn}
+use Rattle.endpoints.specs.Listening.{AllHadNone, AreListening, CameBy, CannotOpen, GaveInTurn, IsRefusedEndpoint, IsSocketOf, WasAsked}
+use Rattle.endpoints.specs.Turns.{FailedOne, HadNoneBetween, SocketGave, IsFairTurn}
 
 module _ {S : Type 0} (listens_at : S → Place → Type 0) (admits : S → SocketMode → Type 0) where
   -- the endpoint of the socket at a place
@@ -59,6 +60,14 @@ module _ {S : Type 0} (listens_at : S → Place → Type 0) (admits : S → Sock
       let there = socket_of es ss ahead are within in
       let own = endpoint_of es ss ahead there.0 are there.1 in
       (own.0, (there.0, own.1, own.2, fair ahead there.0 asked there.1))
+
+  -- sockets that all had none are those of endpoints that had none
+  pub none_by : (had_none : S → Type 0) (es : List Endpoint) (ss : List S) → AreListening listens_at admits es ss → HadNoneBetween had_none ss 0 (length ss)
+      → AllHadNone listens_at admits had_none es
+  none_by had_none es ss are none place within =
+      let there = socket_of es ss place are within in
+      let own = endpoint_of es ss place there.0 are there.1 in
+      (own.0, (there.0, own.1, own.2, none place there.0 (omega arith) (slice_get_within ss place there.0 there.1) there.1))
 
   -- a socket that failed was asked for its endpoint
   pub failed_by : (failed : S → Type 0) (es : List Endpoint) (ss : List S) → AreListening listens_at admits es ss → FailedOne failed ss

@@ -48,6 +48,11 @@ module _ {S : Type 0} (listens_at : S → Place → Type 0) (admits : S → Sock
       (endpoint : Endpoint) × ((socket : S) × (slice_get endpoints place ≡ Some endpoint)
       × IsSocketOf socket endpoint × outcome socket)
 
+  -- each endpoint was asked, and had no connection
+  abbrev pub AllHadNone : (S → Type 0) → List Endpoint → Type 0
+  AllHadNone had_none endpoints =
+      (place : ℕ) → place < length endpoints → WasAsked had_none endpoints place
+
   -- an endpoint gave a connection in its turn: all that are asked ahead of it had none
   abbrev pub GaveInTurn : (S → Type 0) → List Endpoint → ℕ → ℕ → Type 0
   GaveInTurn had_none endpoints last place =

@@ -1,6 +1,6 @@
 //! The entrance of a server, where its connections are taken.
 
-ghost use Rattle.std.specs.Prelude.{◌≡◌, ◌≤◌, ◌+◌, ◌⊎◌, ℕ, false, IfErr, IfNone, IfOk, IfSome, is_some};
+ghost use Rattle.std.specs.Prelude.{◌≡◌, ◌≤◌, ◌+◌, ◌⊎◌, ℕ, false, IfErr, IfNone, IfOk, IfSome, OnErr, is_some, true};
 ghost use Rattle.endpoints.specs.Listening.{CameBy, WasAsked};
 
 use crate::flag_watch::FlagWatch;
@@ -57,8 +57,9 @@ fn place_at<R: Wait>(
     shares: Option<&Mutex<Shares>>,
     endpoint: usize,
 ) -> Result<Option<TakenPlace>, NoPlaceLeft>
-    ensures { IfOk result (λ place. (is_some place ≡ is_some shares.entry)
+    ensures place { IfOk result (λ place. (is_some place ≡ is_some shares.entry)
         × IfSome place (λ taken. taken.endpoint ≡ endpoint)) }
+    ensures full { OnErr result (is_some shares.entry ≡ true) }
 {
     let Some(shares) = shares else {
         return Ok(None);

@@ -2,7 +2,7 @@
 
 ghost use Rattle.std.specs.Prelude.{◌≡◌, ◌<◌, ◌⊎◌, ◌++◌, ◌∷◌, [], ℕ, IfErr, IfNone, IfOk, IfSome, List, OnErr, OnOk, length, slice_get, take};
 ghost use Rattle.std.specs.IoError.{error_kind};
-ghost use Rattle.endpoints.specs.Listening.{AreListening, CameBy, CannotOpen, GaveInTurn, IsRefusedEndpoint, IsSocketOf, WasAsked};
+ghost use Rattle.endpoints.specs.Listening.{AllHadNone, AreListening, CameBy, CannotOpen, GaveInTurn, IsRefusedEndpoint, IsSocketOf, WasAsked};
 
 use crate::endpoint::Endpoint;
 use crate::listen_fault::ListenFault;
@@ -164,7 +164,8 @@ impl<Y: System> Listener<Y> {
             Y.Socket.admits Y.Socket.gave self.new.0 self.new.1 came.0 came.1)) }
         ensures fair { IfOk result (λ found. IfSome found (λ _. GaveInTurn Y.Socket.listens_at
             Y.Socket.admits Y.Socket.had_none self.new.0 self.old.1 self.new.1)) }
-        ensures none { IfOk result (λ found. IfNone found (self.new.1 ≡ self.old.1)) }
+        ensures none { IfOk result (λ found. IfNone found ((self.new.1 ≡ self.old.1) × AllHadNone
+            Y.Socket.listens_at Y.Socket.admits Y.Socket.had_none self.new.0)) }
         ensures failed { IfErr result (λ error. (place : ℕ) × WasAsked Y.Socket.listens_at
             Y.Socket.admits (λ s. Y.Socket.failed s error) self.new.0 place) }
     {
@@ -196,7 +197,8 @@ impl<Y: System> Listener<Y> {
             Y.Socket.admits Y.Socket.gave self.new.0 self.new.1 came.0 came.1)) }
         ensures fair { IfOk result (λ found. IfSome found (λ _. GaveInTurn Y.Socket.listens_at
             Y.Socket.admits Y.Socket.had_none self.new.0 self.old.1 self.new.1)) }
-        ensures woken { IfOk result (λ found. IfNone found Y.was_woken) }
+        ensures woken { IfOk result (λ found. IfNone found (Y.was_woken × AllHadNone
+            Y.Socket.listens_at Y.Socket.admits Y.Socket.had_none self.new.0)) }
         ensures failed { IfErr result (λ error. Y.wait_failed error ⊎ ((place : ℕ)
             × WasAsked Y.Socket.listens_at Y.Socket.admits (λ s. Y.Socket.failed s error)
             self.new.0 place)) }

@@ -41,6 +41,8 @@ pub(crate) fn ask_in_turn<S: Socket>(
         (λ came. SocketGave S.gave sockets.now came.0 came.1)) }
     ensures fair { IfOk result (λ found. IfSome found
         (λ came. IsFairTurn S.had_none sockets.now last came.0)) }
+    ensures none { IfOk result (λ found. IfNone found
+        (HadNoneBetween S.had_none sockets.now 0 (length sockets.now))) }
     ensures failed { IfErr result (λ error. FailedOne (λ s. S.failed s error) sockets.now) }
 {
     let behind = last.saturating_add(1).min(sockets.len());

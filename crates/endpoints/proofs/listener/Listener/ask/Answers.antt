@@ -1,9 +1,9 @@
 use Rattle.std.proofs.Common.{arith, refl, subst, length, List, ℕ}
 use Rattle.std.proofs.lemmas.Option.{slice_get_read, slice_get_within}
 use Rattle.endpoints.specs.declared.endpoint.Endpoint.{Endpoint}
-use Rattle.endpoints.specs.Listening.{GaveInTurn, WasAsked}
-use Rattle.endpoints.specs.Turns.{FailedOne, SocketGave, IsFairTurn}
-use Rattle.endpoints.proofs.ListeningLemmas.{as_many, came_by, failed_by, fair_by}
+use Rattle.endpoints.specs.Listening.{AllHadNone, GaveInTurn, WasAsked}
+use Rattle.endpoints.specs.Turns.{FailedOne, HadNoneBetween, SocketGave, IsFairTurn}
+use Rattle.endpoints.proofs.ListeningLemmas.{as_many, came_by, failed_by, fair_by, none_by}
 use Rattle.endpoints.proofs.listener.Listener.ask.Goals as goal
 
 pub returns-in-Err-clause-failed : goal.returns-in-Err-clause-failed
@@ -40,3 +40,11 @@ returns-in-Ok-Some-clause-fair g c =
     let here = subst (λ (ss : List _). IsFairTurn s.had_none ss c.self.inside.last c.in-Ok-Some.place) c.deref.ensures.value fair in
     let told = fair_by s.listens_at s.admits s.had_none c.self.inside.endpoints.items c.self.inside.sockets.items c.self.inside.last c.in-Ok-Some.place c.self.invariant here in
     subst (λ (v : List Endpoint × ℕ). GaveInTurn s.listens_at s.admits s.had_none c.self.inside.endpoints.items v.1 c.in-Ok-Some.place) c.self.view_is told
+
+pub returns-in-Ok-None-clause-none : goal.returns-in-Ok-None-clause-none
+returns-in-Ok-None-clause-none g c =
+    let s = g.Y.Socket.Socket in
+    let none = rw c.in-Ok-None.field-0-is at c.in-Ok-None.ensures.none in
+    let here = subst (λ (ss : List _). HadNoneBetween s.had_none ss 0 (length ss)) c.deref.ensures.value none in
+    let told = none_by s.listens_at s.admits s.had_none c.self.inside.endpoints.items c.self.inside.sockets.items c.self.invariant here in
+    (refl, subst (λ (v : List Endpoint × ℕ). AllHadNone s.listens_at s.admits s.had_none v.0) c.self.view_is told)
