@@ -1,0 +1,2 @@
+pub mod FairSteps
+pub mod FairOrder

@@ -1,0 +1,9 @@
+//! The pool of workers that runs the jobs of all desks of a server.
+#![tactic(auto)]
+
+// the queue of jobs, whose flows have their turns
+mod fair_laws;
+mod fair_queue;
+
+pub use fair_laws::{each_flow_has_its_turn, flows_keep_their_order};
+pub use fair_queue::{FairQueue, FlowItems};
