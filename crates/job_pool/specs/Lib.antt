@@ -1,1 +1,3 @@
 pub mod FairTurns
+pub mod PooledJobs
+pub mod PoolSteps

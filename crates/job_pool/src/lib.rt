@@ -7,3 +7,12 @@ mod fair_queue;
 
 pub use fair_laws::{each_flow_has_its_turn, flows_keep_their_order};
 pub use fair_queue::{FairQueue, FlowItems};
+
+// one job: it waits, it is run, and it is over
+mod job_watch;
+mod pool_step;
+mod pooled_run;
+
+pub use job_watch::{JobOrigin, JobWatch};
+pub use pool_step::{PoolMark, PoolStep};
+pub use pooled_run::{FinishedRun, PooledEnd, PooledRun};
