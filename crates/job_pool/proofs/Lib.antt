@@ -1,2 +1,3 @@
 pub mod FairSteps
 pub mod FairOrder
+pub mod PoolParts

@@ -1,3 +1,4 @@
 pub mod FairTurns
 pub mod PooledJobs
 pub mod PoolSteps
+pub mod SeatSteps

@@ -10,6 +10,7 @@ pub use fair_queue::{FairQueue, FlowItems};
 
 // one job: it waits, it is run, and it is over
 mod job_watch;
+mod pool_queue;
 mod pool_step;
 mod pooled_run;
 

@@ -53,6 +53,28 @@ impl<J: LogName> PooledEnd<J> {
     }
 }
 
+/// A job that is to be put into the queue, with the post of its board. Contracts see it as the job.
+#[derive(Drop)]
+pub(crate) struct NewRun {
+    pub alloc: Global,
+    pub ticket: u64,
+    pub id: JobId,
+    pub job: Job,
+    pub post: Post,
+    pub origin: JobOrigin,
+}
+
+impl Model for NewRun {
+    ghost use Rattle.std.specs.Prelude.{◌≡◌};
+    ghost use Rattle.job_pool.specs.PooledJobs.{PooledJob};
+
+    ghost Value = { PooledJob };
+
+    ghost view = { λ r. record { ticket = r.ticket; id = r.id; job = r.job } };
+
+    ghost invariant = { λ r. (r.post.board.job ≡ r.id.number) × (r.post.board.issued ≡ r.job.credit) };
+}
+
 /// A job that waits for a worker, with the post of its board, and the room of its end. Contracts see
 /// it as the job.
 #[derive(Drop)]
@@ -143,6 +165,14 @@ impl<J: LogName> PooledRun<J> {
         PoolMark::of(self.ticket, self.id, &self.job)
     }
 
+    /// The job.
+    pub(crate) fn into_job(self) -> Job
+        ensures { result ≡ self.job }
+    {
+        let PooledRun { job, .. } = self;
+        job
+    }
+
     /// Runs the job, a large one on so many threads, 1 to 16, and tells whoever watches.
     pub(crate) fn run<R: Threads + Wait + Sync, W: JobWatch<R>>(
         self,
@@ -168,5 +198,17 @@ impl<J: LogName> PooledRun<J> {
         watch.ended(rt, id, &end, begun);
         set_end(&mut room, &mark, end);
         FinishedRun { mark, room }
+    }
+}
+
+impl<J: LogName> FinishedRun<J> {
+    ghost use Rattle.std.specs.Prelude.{◌≡◌, ◌∷◌, []};
+
+    /// The job's mark, and its end in a list of its own.
+    pub(crate) fn into_parts(self) -> (PoolMark, LinkedList<PooledEnd<J>>)
+        ensures { (result.0 ≡ self) × (result.1 ≡ self ∷ []) }
+    {
+        let FinishedRun { mark, room } = self;
+        (mark, room)
     }
 }

@@ -1,0 +1,216 @@
+//! The queue of a pool, under its lock: the jobs that wait, the ends that nobody has collected, and
+//! the history that leads to both.
+
+ghost use Rattle.std.specs.Prelude.{◌≡◌, ◌∷◌, ◌++◌, [], IfOk, IfSome, MatchOption, MatchResult, ℕ, length, option_to_list};
+ghost use Rattle.job_pool.specs.PoolSteps.{job_ended, job_started, job_taken, over_steps};
+ghost use Rattle.job_pool.specs.SeatSteps.{Collects, with_started, with_started_put, with_step};
+ghost use Rattle.job_pool.specs.declared.pool_step.PoolStep.TheVariants.{Ended, Taken};
+
+use crate::fair_queue::FairQueue;
+use crate::pool_step::{PoolMark, PoolStep};
+use crate::pooled_run::{FinishedRun, NewRun, PooledEnd, PooledRun};
+use credit_book::Report;
+use job_core::Job;
+use refusal::NoMemory;
+use seat_log::{LogKeeper, LogName, LogSeat, SharedLog};
+use server_state::JobId;
+use std::alloc::Global;
+use std::collections::LinkedList;
+use std::marker::Model;
+use std::sync::Wait;
+
+/// The number of a refusal for want of memory.
+pub(crate) const NO_MEMORY: u8 = 99;
+
+/// What lies under the lock of a pool.
+#[derive(Drop)]
+pub(crate) struct PoolQueue<J: LogName> {
+    turns: FairQueue<PooledRun<J>>,
+    over: LinkedList<PooledEnd<J>>,
+    keeper: LogKeeper<PoolStep, J>,
+    is_closed: bool,
+}
+
+impl<J: LogName> Model for PoolQueue<J> {
+    ghost use Rattle.job_pool.specs.PoolSteps.{IsPoolHistory};
+
+    ghost Value = { Unit {0} };
+
+    ghost view = { λ _. tt };
+
+    ghost invariant = { λ q. IsPoolHistory q.keeper q.turns q.over };
+}
+
+// Appends a list, which takes no memory. A list of 2^63 elements would wait for room.
+fn append<R: Wait, T>(rt: &R, list: &mut LinkedList<T>, more: LinkedList<T>)
+where
+    T: Drop,
+    ensures { list.new ≡ list.old ++ more }
+{
+    let mut rest = more;
+    for _ in rt.forever() {
+        if list.append(&mut rest).is_ok() {
+            return;
+        }
+    }
+    unreachable!()
+}
+
+impl<J: LogName> PoolQueue<J> {
+    ghost use Rattle.std.specs.Prelude.{◌≡◌, []};
+
+    /// Nothing waits yet, and nothing is over.
+    pub fn new(alloc: Global, keeper: LogKeeper<PoolStep, J>) -> PoolQueue<J>
+        requires { keeper ≡ [] }
+    {
+        PoolQueue {
+            turns: FairQueue::new(alloc),
+            over: LinkedList::new(alloc),
+            keeper,
+            is_closed: false,
+        }
+    }
+
+    // Starts a job under its ticket, and makes the room of its end.
+    fn enter(
+        &mut self,
+        log: &SharedLog<PoolStep, J>,
+        seat: &mut LogSeat<PoolStep, J>,
+        new: &NewRun,
+    ) -> Result<LinkedList<PooledEnd<J>>, NoMemory>
+        requires seat { seat.old.number ≡ 0 }
+        requires ticket { new.now.ticket ≡ length (over_steps job_started seat.old.part) }
+        ensures seat { seat.new ≡ with_started seat.old new.now }
+        ensures room { IfOk result (λ room.
+            room ≡ new.now ∷ []) }
+    {
+        let started = PoolStep::Started(PoolMark::of(new.ticket, new.id, &new.job));
+        log.add(seat, &mut self.keeper, &started);
+        let note = log.note(seat);
+        let mut room = LinkedList::new(new.alloc);
+        let end = PooledEnd {
+            mark: PoolMark::of(new.ticket, new.id, &new.job),
+            end: Err(NO_MEMORY),
+            note,
+        };
+        match room.push_back(end) {
+            Ok(()) => Ok(room),
+            Err(_) => Err(NoMemory),
+        }
+    }
+
+    /// Starts a job under its ticket, and puts it behind those of its desk. The room of its end is
+    /// made. Without memory for either the job is returned, and is not put.
+    pub fn put(
+        &mut self,
+        log: &SharedLog<PoolStep, J>,
+        seat: &mut LogSeat<PoolStep, J>,
+        new: NewRun,
+    ) -> Result<(), Job>
+        requires seat { seat.old.number ≡ 0 }
+        requires ticket { new.ticket ≡ length (over_steps job_started seat.old.part) }
+        ensures { MatchResult result (λ _. seat.new ≡ with_started_put seat.old new)
+            (λ back. (back ≡ new.job) × (seat.new ≡ with_started seat.old new)) }
+    {
+        let Ok(room) = self.enter(log, seat, &new) else {
+            return Err(new.job);
+        };
+        let NewRun {
+            alloc,
+            ticket,
+            id,
+            job,
+            post,
+            origin,
+        } = new;
+        let put = PoolStep::Put(PoolMark::of(ticket, id, &job));
+        let run = PooledRun {
+            alloc,
+            ticket,
+            id,
+            job,
+            post,
+            origin,
+            room,
+        };
+        match self.turns.put(u64::from(id.desk), run) {
+            Ok(()) => {
+                log.add(seat, &mut self.keeper, &put);
+                Ok(())
+            }
+            Err(back) => Err(back.into_job()),
+        }
+    }
+
+    /// Takes the job whose turn it is; none where nothing waits, or the pool is closed.
+    pub fn take(
+        &mut self,
+        log: &SharedLog<PoolStep, J>,
+        seat: &mut LogSeat<PoolStep, J>,
+    ) -> Option<PooledRun<J>>
+        ensures { MatchOption result (seat.new ≡ seat.old)
+            (λ run. (flow : ℕ) × (seat.new ≡ with_step seat.old (Taken flow run))) }
+    {
+        if self.is_closed {
+            return None;
+        }
+        let (flow, first) = self.turns.take()?;
+        let taken = PoolStep::Taken(flow, first.mark());
+        log.add(seat, &mut self.keeper, &taken);
+        Some(first)
+    }
+
+    /// Tells the end of a job, for which there is room.
+    pub fn tell<R: Wait>(
+        &mut self,
+        rt: &R,
+        log: &SharedLog<PoolStep, J>,
+        seat: &mut LogSeat<PoolStep, J>,
+        done: FinishedRun<J>,
+    )
+        ensures { seat.new ≡ with_step seat.old (Ended done) }
+    {
+        let (mark, room) = done.into_parts();
+        log.add(seat, &mut self.keeper, &PoolStep::Ended(mark));
+        append(rt, &mut self.over, room);
+    }
+
+    /// The end of a job that was told and not yet collected, in the order of their ends: the ticket of
+    /// the job's start, its name, and what it came to.
+    pub fn collect(
+        &mut self,
+        log: &SharedLog<PoolStep, J>,
+        seat: &mut LogSeat<PoolStep, J>,
+    ) -> Option<(u64, JobId, Result<Report, u8>)>
+        requires { seat.old.number ≡ 0 }
+        ensures { MatchOption result (seat.new ≡ seat.old)
+            (λ told. Collects seat.old told.0 told.1 told.2 seat.new) }
+    {
+        let PooledEnd { mark, end, note } = self.over.pop_front()?;
+        let ticket = mark.ticket();
+        let id = mark.id();
+        log.read(seat, note);
+        log.add(seat, &mut self.keeper, &PoolStep::Collected(mark));
+        Some((ticket, id, end))
+    }
+
+    /// Whether a worker has to wait.
+    pub fn is_idle(&self) -> bool {
+        self.turns.is_empty() && !self.is_closed
+    }
+
+    /// Whether the end of a job waits to be collected.
+    pub fn has_ends(&self) -> bool {
+        !self.over.is_empty()
+    }
+
+    /// Whether the pool is closed.
+    pub fn is_closed(&self) -> bool {
+        self.is_closed
+    }
+
+    /// No job is taken from now on.
+    pub fn close(&mut self) {
+        self.is_closed = true;
+    }
+}
