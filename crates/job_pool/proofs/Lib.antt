@@ -1,3 +1,4 @@
 pub mod FairSteps
 pub mod FairOrder
 pub mod PoolParts
+pub mod SeatParts

@@ -5,17 +5,17 @@ use mathlib.Core.List.{IsPrefix}
 use Rattle.seat_log.specs.declared.log_view.SeatEntry.{SeatEntry}
 use Rattle.job_pool.specs.FairTurns.{FairEvent, FairFlow, FairlyLeads, FairStep, TakesTurn, Queued, Served, queued_behind}
 use Rattle.job_pool.specs.PooledJobs.{PooledJob}
-use Rattle.job_pool.specs.PoolSteps.{HasTicket, IsPoolHistory, job_collected, job_ended, job_started, over_history, over_steps, turn_taken}
+use Rattle.job_pool.specs.PoolSteps.{HasTicket, IsPoolHistory, job_collected, job_ended, job_or_none, job_started, noted_job, over_history, over_steps, turn_taken}
 use Rattle.job_pool.specs.declared.pool_step.PoolStep.{PoolStep}
 use Rattle.job_pool.specs.declared.pool_step.PoolStep.TheVariants.{Started, Put, Taken, Ended, Collected}
 use Rattle.job_pool.proofs.FairOrder.{leads_more}
 
 module _ {X : Type 0} where
-  append_nil : (l : List X) → l ++ [] ≡ l
+  pub append_nil : (l : List X) → l ++ [] ≡ l
   append_nil [] = refl
   append_nil (x ∷ xs) = ap (λ (ys : List X). x ∷ ys) (append_nil xs)
 
-  append_assoc : (a b c : List X) → (a ++ b) ++ c ≡ a ++ (b ++ c)
+  pub append_assoc : (a b c : List X) → (a ++ b) ++ c ≡ a ++ (b ++ c)
   append_assoc [] b c = refl
   append_assoc (x ∷ xs) b c = ap (λ (l : List X). x ∷ l) (append_assoc xs b c)
 
@@ -70,6 +70,12 @@ pub ticket_noted : (part now : List PoolStep) (entered marked job : PooledJob) �
 ticket_noted part now entered marked job first second next is =
     subst (λ (l : List PoolStep). HasTicket l marked) (sym (is ∙ ap (λ (j : PooledJob). part ++ Started j ∷ []) (first ∙ sym second)))
     (ticket_given part marked (ap (λ (j : PooledJob). j.ticket) second ∙ next))
+
+-- what is noted under a ticket is the job that has it
+pub noted_is : (part now : List PoolStep) (entered job : PooledJob) → entered ≡ job → job.ticket ≡ length (over_steps job_started part) → now ≡ part ++ Started entered ∷ [] → noted_job now job.ticket job.id ≡ job
+noted_is part now entered job same next is =
+    let had : HasTicket now job = ticket_noted part now entered job job same refl next is in
+    ap (λ (o : Option PooledJob). record { ticket = job.ticket; id = job.id; job = job_or_none o }) had
 
 pub one_ticket : (part : List PoolStep) (a b : PooledJob) → HasTicket part a → HasTicket part b → a.ticket ≡ b.ticket → a ≡ b
 one_ticket part a b first second same =

@@ -1,6 +1,8 @@
 -- The steps of a pool's history: what each of them says of which job.
-use Rattle.std.specs.Prelude.{◌≡◌, ℕ, List, [], ◌∷◌, ◌++◌, Some, slice_get}
+use Rattle.std.specs.Prelude.{◌≡◌, ℕ, List, [], ◌∷◌, ◌++◌, Option, Some, None, slice_get}
+use Rattle.job_core.specs.Admitted.{AdmittedJob}
 use Rattle.seat_log.specs.declared.log_view.SeatEntry.{SeatEntry}
+use Rattle.server_state.specs.declared.job_id.JobId.{JobId}
 use Rattle.job_pool.specs.FairTurns.{FairEvent, FairFlow, FairlyLeads, Queued, Served}
 use Rattle.job_pool.specs.PooledJobs.{PooledJob}
 use Rattle.job_pool.specs.declared.pool_step.PoolStep.{PoolStep}
@@ -63,6 +65,18 @@ over_history f (e ∷ es) = f e.entry ++ over_history f es
 -- the job was started by this part as the one of its ticket
 abbrev pub HasTicket : List PoolStep → PooledJob → Type 0
 HasTicket part job = slice_get (over_steps job_started part) job.ticket ≡ Some job
+
+-- the job that this part started under a ticket, by this name
+abbrev pub job_or_none : Option PooledJob → AdmittedJob
+job_or_none (Some job) = job.job
+job_or_none None = record { programs = []; credit = 0; buffer = [] }
+
+abbrev pub noted_job : List PoolStep → ℕ → JobId → PooledJob
+noted_job part ticket id = record {
+  ticket = ticket;
+  id = id;
+  job = job_or_none (slice_get (over_steps job_started part) ticket);
+}
 
 -- The history is fair, and leads to just what waits; and what ended and was not collected is over.
 pub record IsPoolHistory (history : List (SeatEntry PoolStep)) (waits : List (FairFlow PooledJob))

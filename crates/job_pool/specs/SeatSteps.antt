@@ -1,10 +1,10 @@
 -- What a step adds to a seat of a pool's history.
-use Rattle.std.specs.Prelude.{◌≡◌, ℕ, [], ◌∷◌, ◌++◌, Result}
+use Rattle.std.specs.Prelude.{◌≡◌, ℕ, List, [], ◌∷◌, ◌++◌, Result}
 use Rattle.credit_book.specs.declared.book.Report.{Report}
 use Rattle.seat_log.specs.Seated.{SeatPart}
 use Rattle.server_state.specs.declared.job_id.JobId.{JobId}
 use Rattle.job_pool.specs.PooledJobs.{PooledJob, IsJobEnd}
-use Rattle.job_pool.specs.PoolSteps.{HasTicket}
+use Rattle.job_pool.specs.PoolSteps.{HasTicket, job_ended, job_taken, over_steps}
 use Rattle.job_pool.specs.declared.pool_step.PoolStep.{PoolStep}
 use Rattle.job_pool.specs.declared.pool_step.PoolStep.TheVariants.{Started, Put, Collected}
 
@@ -26,6 +26,16 @@ pub record Collects (old : SeatPart PoolStep) (ticket : ℕ) (id : JobId) (outco
   pub job : PooledJob
   pub ticketed : job.ticket ≡ ticket
   pub named : job.id ≡ id
-  pub started : HasTicket old.part job
+  pub started : HasTicket new.part job
   pub end : IsJobEnd id job.job outcome
   pub is : new ≡ with_step old (Collected job)
+
+-- Between two moments a worker took these jobs, and told the end of each, in order.
+pub record EndsEachTaken (old new : SeatPart PoolStep) : Type 0 where
+  pub took : List PooledJob
+  pub taken : over_steps job_taken new.part ≡ over_steps job_taken old.part ++ took
+  pub told : over_steps job_ended new.part ≡ over_steps job_ended old.part ++ took
+
+-- a seat that has made no step
+abbrev pub no_steps : ℕ → SeatPart PoolStep
+no_steps n = record { number = n; part = [] }

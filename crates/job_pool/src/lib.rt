@@ -17,3 +17,10 @@ mod pooled_run;
 pub use job_watch::{JobOrigin, JobWatch};
 pub use pool_step::{PoolMark, PoolStep};
 pub use pooled_run::{FinishedRun, PooledEnd, PooledRun};
+
+// the queue between threads
+mod pool_ends;
+mod pool_threads;
+
+pub use pool_ends::{PoolPort, PoolSignal, PoolWorker, open_pool};
+pub use pool_threads::start_workers;

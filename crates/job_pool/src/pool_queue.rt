@@ -89,7 +89,8 @@ impl<J: LogName> PoolQueue<J> {
         let note = log.note(seat);
         let mut room = LinkedList::new(new.alloc);
         let end = PooledEnd {
-            mark: PoolMark::of(new.ticket, new.id, &new.job),
+            ticket: new.ticket,
+            id: new.id,
             end: Err(NO_MEMORY),
             note,
         };
@@ -175,6 +176,28 @@ impl<J: LogName> PoolQueue<J> {
         append(rt, &mut self.over, room);
     }
 
+    /// Tells the end of a job, if there is one.
+    pub fn tell_some<R: Wait>(
+        &mut self,
+        rt: &R,
+        log: &SharedLog<PoolStep, J>,
+        seat: &mut LogSeat<PoolStep, J>,
+        done: Option<FinishedRun<J>>,
+    ) -> bool
+        ensures ended { over_steps job_ended seat.new.part
+            ≡ over_steps job_ended seat.old.part ++ option_to_list done }
+        ensures taken { over_steps job_taken seat.new.part
+            ≡ over_steps job_taken seat.old.part }
+    {
+        match done {
+            Some(done) => {
+                self.tell(rt, log, seat, done);
+                true
+            }
+            None => false,
+        }
+    }
+
     /// The end of a job that was told and not yet collected, in the order of their ends: the ticket of
     /// the job's start, its name, and what it came to.
     pub fn collect(
@@ -186,11 +209,15 @@ impl<J: LogName> PoolQueue<J> {
         ensures { MatchOption result (seat.new ≡ seat.old)
             (λ told. Collects seat.old told.0 told.1 told.2 seat.new) }
     {
-        let PooledEnd { mark, end, note } = self.over.pop_front()?;
-        let ticket = mark.ticket();
-        let id = mark.id();
+        let ended = self.over.pop_front()?;
+        log.add(seat, &mut self.keeper, &ended);
+        let PooledEnd {
+            ticket,
+            id,
+            end,
+            note,
+        } = ended;
         log.read(seat, note);
-        log.add(seat, &mut self.keeper, &PoolStep::Collected(mark));
         Some((ticket, id, end))
     }
 

@@ -1,6 +1,7 @@
 //! The steps of a pool's history.
 
 use job_core::Job;
+use seat_log::Logged;
 use server_state::JobId;
 use std::marker::Model;
 use std::snapshot::Snapshot;
@@ -34,6 +35,10 @@ pub enum PoolStep {
     Collected(PoolMark),
 }
 
+impl Logged<PoolStep> for PoolStep {
+    ghost entry = { λ step. step };
+}
+
 impl PoolMark {
     ghost use Rattle.std.specs.Prelude.{◌≡◌};
 
@@ -46,19 +51,5 @@ impl PoolMark {
             id,
             job: Snapshot::of(job),
         }
-    }
-
-    /// The ticket of its start.
-    pub(crate) fn ticket(&self) -> u64
-        ensures { result ≡ self.now.ticket }
-    {
-        self.ticket
-    }
-
-    /// The job's name.
-    pub(crate) fn id(&self) -> JobId
-        ensures { result ≡ self.now.id }
-    {
-        self.id
     }
 }

@@ -7,7 +7,7 @@ use crate::job_watch::{JobOrigin, JobWatch};
 use crate::pool_step::{PoolMark, PoolStep};
 use credit_book::{Post, Report};
 use job_core::Job;
-use seat_log::{LogName, LogNote};
+use seat_log::{LogName, LogNote, Logged};
 use server_state::JobId;
 use std::alloc::Global;
 use std::collections::LinkedList;
@@ -22,7 +22,8 @@ const SMALL: u32 = 1_000_000;
 /// The end of a job: what it came to, and a note of its start. Contracts see it as that job.
 #[derive(Drop)]
 pub struct PooledEnd<J: LogName> {
-    pub(crate) mark: PoolMark,
+    pub(crate) ticket: u64,
+    pub(crate) id: JobId,
     pub(crate) end: Result<Report, u8>,
     pub(crate) note: LogNote<PoolStep, J>,
 }
@@ -30,14 +31,21 @@ pub struct PooledEnd<J: LogName> {
 impl<J: LogName> Model for PooledEnd<J> {
     ghost use Rattle.std.specs.Prelude.{◌≡◌};
     ghost use Rattle.job_pool.specs.PooledJobs.{PooledJob, IsJobEnd};
-    ghost use Rattle.job_pool.specs.PoolSteps.{HasTicket};
+    ghost use Rattle.job_pool.specs.PoolSteps.{HasTicket, noted_job};
 
     ghost Value = { PooledJob };
 
-    ghost view = { λ e. e.mark };
+    ghost view = { λ e. noted_job e.note.part e.ticket e.id };
 
-    ghost invariant = { λ e. IsJobEnd e.mark.id e.mark.job e.end × (e.note.number ≡ 0)
-        × HasTicket e.note.part e.mark };
+    ghost invariant = { λ e. IsJobEnd e.id (noted_job e.note.part e.ticket e.id).job e.end
+        × (e.note.number ≡ 0) × HasTicket e.note.part (noted_job e.note.part e.ticket e.id) };
+}
+
+/// Its step is that it was collected.
+impl<J: LogName> Logged<PoolStep> for PooledEnd<J> {
+    ghost use Rattle.job_pool.specs.declared.pool_step.PoolStep.TheVariants.{Collected};
+
+    ghost entry = { λ e. Collected e };
 }
 
 impl<J: LogName> PooledEnd<J> {

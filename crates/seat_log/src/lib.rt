@@ -4,5 +4,5 @@
 mod log_view;
 mod shared_log;
 
-pub use log_view::{LogName, LogView, OneLog, SeatEntry};
+pub use log_view::{LogName, LogView, Logged, OneLog, SeatEntry};
 pub use shared_log::{LogKeeper, LogNote, LogOpener, LogSeat, NewLog, SharedLog};

@@ -129,6 +129,11 @@ impl<E> Split<LogView<E>> for LeavesNote {
     ghost right = { only_note };
 }
 
+/// What an entry is made of.
+pub trait Logged<E> {
+    ghost entry: { Self → E };
+}
+
 /// Says which entry may be added. Each call picks it.
 pub trait Picks<E> {
     ghost picks: { E → Type 0 };

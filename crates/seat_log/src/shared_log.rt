@@ -4,8 +4,8 @@ ghost use Rattle.std.specs.Prelude.{◌≡◌, ◌+◌, [], ◌∷◌, ◌++◌}
 ghost use mathlib.Core.List.{IsPrefix};
 
 use crate::log_view::{
-    AddsEntry, LeavesLog, LeavesNote, LogName, LogView, NotesPart, OneLog, OpensSeat, Picks,
-    ReadsNote, SparesView, TakesLog, TakesNote,
+    AddsEntry, LeavesLog, LeavesNote, LogName, LogView, Logged, NotesPart, OneLog, OpensSeat,
+    Picks, ReadsNote, SparesView, TakesLog, TakesNote,
 };
 use atomic_table::{Seat, Table};
 use refusal::NoMemory;
@@ -176,13 +176,18 @@ impl<E, J: LogName> SharedLog<E, J> {
     }
 
     // Adds the entry that the call picks.
-    fn add_as<P: Picks<E>>(&self, seat: &mut LogSeat<E, J>, keeper: &mut LogKeeper<E, J>, entry: &E)
+    fn add_as<P: Picks<E>, T>(
+        &self,
+        seat: &mut LogSeat<E, J>,
+        keeper: &mut LogKeeper<E, J>,
+        item: &T,
+    )
         requires { (e : E) × P.picks e }
         ensures { (e : E) × P.picks e
             × (keeper.new ≡ keeper.old ++ record { seat = seat.old.number; entry = e } ∷ [])
             × (seat.new ≡ record { number = seat.old.number; part = seat.old.part ++ e ∷ [] }) }
     {
-        let _ = entry;
+        let _ = item;
         let spare = self.table.shared.split_seat::<SparesView>(&mut seat.seat);
         let held = mem::replace(&mut keeper.seat, spare);
         self.table
@@ -193,16 +198,21 @@ impl<E, J: LogName> SharedLog<E, J> {
         keeper.seat = left;
     }
 
-    /// Adds an entry behind all others, as one of this seat.
-    pub fn add(&self, seat: &mut LogSeat<E, J>, keeper: &mut LogKeeper<E, J>, entry: &E)
+    /// Adds the entry of this item behind all others, as one of this seat.
+    pub fn add<T: Logged<E>>(
+        &self,
+        seat: &mut LogSeat<E, J>,
+        keeper: &mut LogKeeper<E, J>,
+        item: &T,
+    )
         ensures keeper { keeper.new ≡ keeper.old
-            ++ record { seat = seat.old.number; entry = entry.now } ∷ [] }
+            ++ record { seat = seat.old.number; entry = T.entry item.now } ∷ [] }
         ensures seat { seat.new ≡ record {
           number = seat.old.number;
-          part = seat.old.part ++ entry.now ∷ [];
+          part = seat.old.part ++ T.entry item.now ∷ [];
         } }
     {
-        self.add_as::<Brand>(seat, keeper, entry);
+        self.add_as::<Brand, T>(seat, keeper, item);
     }
 
     /// A note of what this seat added so far.

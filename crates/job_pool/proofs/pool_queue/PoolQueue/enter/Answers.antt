@@ -1,19 +1,33 @@
-use Rattle.std.proofs.Common.{◌≡◌, ◌∷◌, ◌++◌, [], refl, sym, ap, ◌∙◌, rules}
+use Rattle.std.proofs.Common.{◌≡◌, ◌∷◌, ◌++◌, [], ℕ, List, length, refl, sym, ap, subst, ◌∙◌, rules}
+use Rattle.job_core.specs.Admitted.{AdmittedJob}
+use Rattle.server_state.specs.declared.job_id.JobId.{JobId}
 use Rattle.job_pool.specs.PooledJobs.{PooledJob}
+use Rattle.job_pool.specs.PoolSteps.{HasTicket, job_started, noted_job, over_steps}
+use Rattle.job_pool.specs.declared.pool_step.PoolStep.{PoolStep}
+use Rattle.job_pool.specs.declared.pool_step.PoolStep.TheVariants.{Started}
 use Rattle.job_pool.specs.SeatSteps.{with_started}
-use Rattle.job_pool.proofs.PoolParts.{keeps_started, ticket_noted}
+use Rattle.job_pool.proofs.PoolParts.{keeps_started, noted_is, ticket_noted}
 use Rattle.job_pool.proofs.pool_queue.PoolQueue.enter.Goals as goal
+
+-- what is noted of the start is the job
+noted : (part now : List PoolStep) (entered given : PooledJob) (ticket : ℕ) (id : JobId) (job : AdmittedJob)
+    → entered ≡ record { ticket = ticket; id = id; job = job } → given ≡ record { ticket = ticket; id = id; job = job } → given.ticket ≡ length (over_steps job_started part) → now ≡ part ++ Started entered ∷ []
+    → (noted_job now ticket id ≡ given) × HasTicket now (noted_job now ticket id)
+noted part now entered given ticket id job first second next is =
+    let whole : PooledJob = record { ticket = ticket; id = id; job = job } in
+    let numbered : whole.ticket ≡ length (over_steps job_started part) = ap (λ (j : PooledJob). j.ticket) (sym second) ∙ next in
+    let same : noted_job now ticket id ≡ whole = noted_is part now entered whole first numbered is in
+    (same ∙ sym second, subst (λ (j : PooledJob). HasTicket now j) (sym same) (ticket_noted part now entered whole whole first refl numbered is))
 
 pub invariant_of-end : goal.invariant_of-end
 invariant_of-end g c =
-    let entered : c.of.result ≡ c.args.new.now = search rules in
-    let marked : c.of-2.result ≡ c.args.new.now = search rules in
-    let noted = c.note-note.ensures.note in
-    let added = c.add.ensures.seat in (
+    let note = c.note-note.ensures.note in
+    let added = c.add.ensures.seat in
+    let n = noted c.args.seat.now.part c.note-note.result.part c.of.result c.args.new.now c.new.inside.ticket c.new.inside.id c.new.inside.job
+    c.of.ensures (search rules) c.requires.ticket (ap (λ s. s.part) note ∙ ap (λ s. s.part) added) in (
       refl,
-      ap (λ s. s.number) noted ∙ (ap (λ s. s.number) added ∙ c.requires.seat),
-      ticket_noted c.args.seat.now.part c.note-note.result.part c.of.result c.of-2.result c.args.new.now entered marked c.requires.ticket
-          (ap (λ s. s.part) noted ∙ ap (λ s. s.part) added),
+      ap (λ s. s.number) note ∙ (ap (λ s. s.number) added ∙ c.requires.seat),
+      n.1,
     )
 
 pub invariant_of-self : goal.invariant_of-self
@@ -29,8 +43,9 @@ returns-in-Ok-clause-seat g c =
 
 pub returns-in-Ok-clause-room : goal.returns-in-Ok-clause-room
 returns-in-Ok-clause-room g c =
-    let marked : c.of-2.result ≡ c.args.new.now = search rules in
-    c.in-Ok.ensures.items ∙ (ap (λ l. l ++ c.of-2.result ∷ []) c.new-room.ensures ∙ ap (λ (j : PooledJob). j ∷ []) marked)
+    let n = noted c.args.seat.now.part c.note-note.result.part c.of.result c.args.new.now c.new.inside.ticket c.new.inside.id c.new.inside.job
+    c.of.ensures (search rules) c.requires.ticket (ap (λ s. s.part) c.note-note.ensures.note ∙ ap (λ s. s.part) c.add.ensures.seat) in
+    c.in-Ok.ensures.items ∙ (ap (λ l. l ++ noted_job c.note-note.result.part c.new.inside.ticket c.new.inside.id ∷ []) c.new-room.ensures ∙ ap (λ (j : PooledJob). j ∷ []) n.0)
 
 pub returns-clause-seat : goal.returns-clause-seat
 returns-clause-seat g c =
