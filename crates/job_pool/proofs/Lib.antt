@@ -2,3 +2,4 @@ pub mod FairSteps
 pub mod FairOrder
 pub mod PoolParts
 pub mod SeatParts
+pub mod Desks

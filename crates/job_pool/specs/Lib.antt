@@ -2,3 +2,4 @@ pub mod FairTurns
 pub mod PooledJobs
 pub mod PoolSteps
 pub mod SeatSteps
+pub mod Holdings

@@ -24,3 +24,10 @@ mod pool_threads;
 
 pub use pool_ends::{PoolPort, PoolSignal, PoolWorker, open_pool};
 pub use pool_threads::start_workers;
+
+// the jobs that are held, within limits
+mod job_table;
+mod open_job;
+
+pub use job_table::PoolLimits;
+pub use open_job::OpenJob;
