@@ -3,3 +3,4 @@ pub mod FairOrder
 pub mod PoolParts
 pub mod SeatParts
 pub mod Desks
+pub mod Limits

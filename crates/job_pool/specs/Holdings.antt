@@ -137,6 +137,11 @@ IsWithin limits desks = (1 ≤ limits.all → open_in desks ≤ limits.all)
 
 -- ---- a start and a take
 
+-- this very start is held
+abbrev pub IsHeldJob : List (BTreeMap ℕ SeenJob) → PooledJob → Type 0
+IsHeldJob desks job = (held : SeenJob) × (job_at desks job.id ≡ Some held)
+    × (held.job.ticket ≡ job.ticket)
+
 -- a job that was just started: nothing was seen of it but its opening
 pub record IsFreshJob (ticket : ℕ) (id : JobId) (job : AdmittedJob) (held : SeenJob) : Type 0 where
   pub is : held.job ≡ record { ticket = ticket; id = id; job = job }

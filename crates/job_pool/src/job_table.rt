@@ -40,6 +40,13 @@ impl PoolLimits {
         PoolLimits { all, each }
     }
 
+    /// The number of desks.
+    pub(crate) fn desks(&self) -> usize
+        ensures { result ≡ length self.now.each }
+    {
+        self.each.len()
+    }
+
     // The limit of a desk.
     fn at(&self, desk: usize) -> u32
         ensures { result ≡ limit_at self.now desk }

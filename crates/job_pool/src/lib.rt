@@ -28,6 +28,8 @@ pub use pool_threads::start_workers;
 // the jobs that are held, within limits
 mod job_table;
 mod open_job;
+mod server_pool;
 
 pub use job_table::PoolLimits;
 pub use open_job::OpenJob;
+pub use server_pool::JobPool;

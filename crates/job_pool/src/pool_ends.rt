@@ -2,16 +2,17 @@
 //! the workers', and what waits for ends and closes the pool.
 
 ghost use Rattle.std.specs.Prelude.{◌≡◌, ◌++◌, [], All, IfOk, MatchOption, MatchResult, length, option_to_list};
-ghost use Rattle.job_pool.specs.PoolSteps.{job_ended, job_started, job_taken, over_steps};
-ghost use Rattle.job_pool.specs.SeatSteps.{Collects, no_steps, with_started, with_started_put};
+ghost use mathlib.Core.List.{IsPrefix};
+ghost use Rattle.job_pool.specs.PoolSteps.{job_ended, job_taken, over_steps};
+ghost use Rattle.job_pool.specs.SeatSteps.{Collects, no_steps, with_step};
+ghost use Rattle.job_pool.specs.declared.pool_step.PoolStep.TheVariants.{Put, Started};
 
 use crate::pool_queue::PoolQueue;
-use crate::pool_step::PoolStep;
-use crate::pooled_run::{FinishedRun, NewRun, PooledRun};
+use crate::pool_step::{PoolMark, PoolStep};
+use crate::pooled_run::{FinishedRun, PooledRun};
 use credit_book::Report;
-use job_core::Job;
 use refusal::NoMemory;
-use seat_log::{LogName, LogOpener, LogSeat, NewLog, SharedLog};
+use seat_log::{LogName, LogNote, LogOpener, LogSeat, NewLog, SharedLog};
 use server_state::JobId;
 use std::alloc::Global;
 use std::marker::Model;
@@ -70,16 +71,43 @@ pub struct PoolSignal<J: LogName> {
 impl<J: LogName> PoolPort<J> {
     ghost use Rattle.std.specs.Prelude.{◌≡◌};
 
-    /// Starts a job under the next ticket and puts it behind those of its desk. It is returned, and
-    /// not put, where there is no memory. A closed pool takes it too, and runs it no more than those
-    /// that wait then.
-    pub(crate) fn put<R: Wait>(&mut self, rt: &R, new: NewRun) -> Result<(), Job>
-        requires { new.ticket ≡ length (over_steps job_started self.old.part) }
-        ensures { MatchResult result (λ _. self.new ≡ with_started_put self.old new)
-            (λ back. (back ≡ new.job) × (self.new ≡ with_started self.old new)) }
+    /// Starts a job under its ticket.
+    pub(crate) fn enter<R: Wait>(&mut self, rt: &R, started: PoolMark)
+        ensures { self.new ≡ with_step self.old (Started started) }
     {
         let lock: &PoolLock<J> = &self.lock;
-        let put = lock.queue.lock(rt).put(&lock.log, &mut self.seat, new);
+        lock.queue
+            .lock(rt)
+            .enter(&lock.log, &mut self.seat, started);
+    }
+
+    /// A note of the steps so far.
+    pub(crate) fn note(&mut self) -> LogNote<PoolStep, J>
+        ensures note { (result.number ≡ 0) × (result.part ≡ self.old.part) }
+        ensures same { self.new ≡ self.old }
+    {
+        let lock: &PoolLock<J> = &self.lock;
+        lock.log.note(&mut self.seat)
+    }
+
+    /// A note of this port has its first steps.
+    pub(crate) fn read(&mut self, note: LogNote<PoolStep, J>)
+        requires { note.number ≡ 0 }
+        ensures same { self.new ≡ self.old }
+        ensures begins { IsPrefix note.part self.old.part }
+    {
+        let lock: &PoolLock<J> = &self.lock;
+        lock.log.read(&mut self.seat, note);
+    }
+
+    /// Puts a job behind those of its desk. It is returned, and not put, where there is no memory. A
+    /// closed pool takes it too, and runs it no more than those that wait then.
+    pub(crate) fn put<R: Wait>(&mut self, rt: &R, waiting: PooledRun<J>) -> Result<(), PooledRun<J>>
+        ensures { MatchResult result (λ _. self.new ≡ with_step self.old (Put waiting))
+            (λ back. (back ≡ waiting) × (self.new ≡ self.old)) }
+    {
+        let lock: &PoolLock<J> = &self.lock;
+        let put = lock.queue.lock(rt).put(&lock.log, &mut self.seat, waiting);
         if put.is_ok() {
             lock.work.notify_one();
         }

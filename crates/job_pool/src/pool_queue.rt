@@ -2,25 +2,20 @@
 //! the history that leads to both.
 
 ghost use Rattle.std.specs.Prelude.{◌≡◌, ◌∷◌, ◌++◌, [], IfOk, IfSome, MatchOption, MatchResult, ℕ, length, option_to_list};
-ghost use Rattle.job_pool.specs.PoolSteps.{job_ended, job_started, job_taken, over_steps};
-ghost use Rattle.job_pool.specs.SeatSteps.{Collects, with_started, with_started_put, with_step};
-ghost use Rattle.job_pool.specs.declared.pool_step.PoolStep.TheVariants.{Ended, Taken};
+ghost use Rattle.job_pool.specs.PoolSteps.{job_ended, job_taken, over_steps};
+ghost use Rattle.job_pool.specs.SeatSteps.{Collects, with_step};
+ghost use Rattle.job_pool.specs.declared.pool_step.PoolStep.TheVariants.{Ended, Put, Started, Taken};
 
 use crate::fair_queue::FairQueue;
 use crate::pool_step::{PoolMark, PoolStep};
-use crate::pooled_run::{FinishedRun, NewRun, PooledEnd, PooledRun};
+use crate::pooled_run::{FinishedRun, PooledEnd, PooledRun};
 use credit_book::Report;
-use job_core::Job;
-use refusal::NoMemory;
 use seat_log::{LogKeeper, LogName, LogSeat, SharedLog};
 use server_state::JobId;
 use std::alloc::Global;
 use std::collections::LinkedList;
 use std::marker::Model;
 use std::sync::Wait;
-
-/// The number of a refusal for want of memory.
-pub(crate) const NO_MEMORY: u8 = 99;
 
 /// What lies under the lock of a pool.
 #[derive(Drop)]
@@ -71,75 +66,35 @@ impl<J: LogName> PoolQueue<J> {
         }
     }
 
-    // Starts a job under its ticket, and makes the room of its end.
-    fn enter(
+    /// Starts a job under its ticket.
+    pub fn enter(
         &mut self,
         log: &SharedLog<PoolStep, J>,
         seat: &mut LogSeat<PoolStep, J>,
-        new: &NewRun,
-    ) -> Result<LinkedList<PooledEnd<J>>, NoMemory>
-        requires seat { seat.old.number ≡ 0 }
-        requires ticket { new.now.ticket ≡ length (over_steps job_started seat.old.part) }
-        ensures seat { seat.new ≡ with_started seat.old new.now }
-        ensures room { IfOk result (λ room.
-            room ≡ new.now ∷ []) }
+        started: PoolMark,
+    )
+        ensures { seat.new ≡ with_step seat.old (Started started) }
     {
-        let started = PoolStep::Started(PoolMark::of(new.ticket, new.id, &new.job));
-        log.add(seat, &mut self.keeper, &started);
-        let note = log.note(seat);
-        let mut room = LinkedList::new(new.alloc);
-        let end = PooledEnd {
-            ticket: new.ticket,
-            id: new.id,
-            end: Err(NO_MEMORY),
-            note,
-        };
-        match room.push_back(end) {
-            Ok(()) => Ok(room),
-            Err(_) => Err(NoMemory),
-        }
+        log.add(seat, &mut self.keeper, &PoolStep::Started(started));
     }
 
-    /// Starts a job under its ticket, and puts it behind those of its desk. The room of its end is
-    /// made. Without memory for either the job is returned, and is not put.
+    /// Puts a job behind those of its desk. Without memory it is returned, and is not put.
     pub fn put(
         &mut self,
         log: &SharedLog<PoolStep, J>,
         seat: &mut LogSeat<PoolStep, J>,
-        new: NewRun,
-    ) -> Result<(), Job>
-        requires seat { seat.old.number ≡ 0 }
-        requires ticket { new.ticket ≡ length (over_steps job_started seat.old.part) }
-        ensures { MatchResult result (λ _. seat.new ≡ with_started_put seat.old new)
-            (λ back. (back ≡ new.job) × (seat.new ≡ with_started seat.old new)) }
+        waiting: PooledRun<J>,
+    ) -> Result<(), PooledRun<J>>
+        ensures { MatchResult result (λ _. seat.new ≡ with_step seat.old (Put waiting))
+            (λ back. (back ≡ waiting) × (seat.new ≡ seat.old)) }
     {
-        let Ok(room) = self.enter(log, seat, &new) else {
-            return Err(new.job);
-        };
-        let NewRun {
-            alloc,
-            ticket,
-            id,
-            job,
-            post,
-            origin,
-        } = new;
-        let put = PoolStep::Put(PoolMark::of(ticket, id, &job));
-        let run = PooledRun {
-            alloc,
-            ticket,
-            id,
-            job,
-            post,
-            origin,
-            room,
-        };
-        match self.turns.put(u64::from(id.desk), run) {
+        let mark = waiting.mark();
+        match self.turns.put(u64::from(waiting.id.desk), waiting) {
             Ok(()) => {
-                log.add(seat, &mut self.keeper, &put);
+                log.add(seat, &mut self.keeper, &PoolStep::Put(mark));
                 Ok(())
             }
-            Err(back) => Err(back.into_job()),
+            Err(back) => Err(back),
         }
     }
 

@@ -1,12 +1,13 @@
 //! A job that waits for a worker, its run, and its end.
 
-ghost use Rattle.std.specs.Prelude.{◌≡◌, ◌≤◌, ◌∷◌, []};
+ghost use Rattle.std.specs.Prelude.{◌≡◌, ◌≤◌, ◌∷◌, [], IfOk};
 ghost use Rattle.job_pool.specs.PooledJobs.{IsJobEnd};
 
 use crate::job_watch::{JobOrigin, JobWatch};
 use crate::pool_step::{PoolMark, PoolStep};
 use credit_book::{Post, Report};
 use job_core::Job;
+use refusal::NoMemory;
 use seat_log::{LogName, LogNote, Logged};
 use server_state::JobId;
 use std::alloc::Global;
@@ -15,6 +16,9 @@ use std::marker::Model;
 use std::sync::Wait;
 use std::thread::Threads;
 use workers::{OpenGate, run_whole};
+
+/// The number of a refusal for want of memory.
+pub(crate) const NO_MEMORY: u8 = 99;
 
 /// The most credit of a job that one worker runs by itself.
 const SMALL: u32 = 1_000_000;
@@ -51,6 +55,22 @@ impl<J: LogName> Logged<PoolStep> for PooledEnd<J> {
 impl<J: LogName> PooledEnd<J> {
     ghost use Rattle.std.specs.Prelude.{◌≡◌};
     ghost use Rattle.job_pool.specs.PooledJobs.{IsJobEnd};
+    ghost use Rattle.job_pool.specs.PoolSteps.{HasTicket};
+
+    /// The end of a job that was started so, which there is no memory for yet.
+    pub(crate) fn new(ticket: u64, id: JobId, job: &Job, note: LogNote<PoolStep, J>) -> PooledEnd<J>
+        requires { (note.number ≡ 0)
+            × HasTicket note.part (record { ticket = ticket; id = id; job = job.now }) }
+        ensures { result ≡ record { ticket = ticket; id = id; job = job.now } }
+    {
+        let _ = job;
+        PooledEnd {
+            ticket,
+            id,
+            end: Err(NO_MEMORY),
+            note,
+        }
+    }
 
     /// Sets what the job came to.
     pub(crate) fn set(&mut self, end: Result<Report, u8>)
@@ -59,28 +79,6 @@ impl<J: LogName> PooledEnd<J> {
     {
         self.end = end;
     }
-}
-
-/// A job that is to be put into the queue, with the post of its board. Contracts see it as the job.
-#[derive(Drop)]
-pub(crate) struct NewRun {
-    pub alloc: Global,
-    pub ticket: u64,
-    pub id: JobId,
-    pub job: Job,
-    pub post: Post,
-    pub origin: JobOrigin,
-}
-
-impl Model for NewRun {
-    ghost use Rattle.std.specs.Prelude.{◌≡◌};
-    ghost use Rattle.job_pool.specs.PooledJobs.{PooledJob};
-
-    ghost Value = { PooledJob };
-
-    ghost view = { λ r. record { ticket = r.ticket; id = r.id; job = r.job } };
-
-    ghost invariant = { λ r. (r.post.board.job ≡ r.id.number) × (r.post.board.issued ≡ r.job.credit) };
 }
 
 /// A job that waits for a worker, with the post of its board, and the room of its end. Contracts see
@@ -144,6 +142,20 @@ fn end_of<R: Threads + Wait + Sync>(
     match run_whole(rt, alloc, job, post, threads, &OpenGate) {
         Ok(report) => Ok(report),
         Err(why) => Err(why.code()),
+    }
+}
+
+/// A list of one end, which another list takes in without memory.
+pub(crate) fn room_of<J: LogName>(
+    alloc: Global,
+    end: PooledEnd<J>,
+) -> Result<LinkedList<PooledEnd<J>>, NoMemory>
+    ensures { IfOk result (λ room. room ≡ end ∷ []) }
+{
+    let mut room = LinkedList::new(alloc);
+    match room.push_back(end) {
+        Ok(()) => Ok(room),
+        Err(_) => Err(NoMemory),
     }
 }
 
