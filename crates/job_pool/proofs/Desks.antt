@@ -8,7 +8,7 @@ use Rattle.std.specs.Ordering.{nat_cmp}
 use Rattle.credit_book.specs.declared.board.Progress.{Progress}
 use Rattle.server_state.specs.declared.job_id.JobId.{JobId}
 use Rattle.job_pool.specs.PooledJobs.{PooledJob}
-use Rattle.job_pool.specs.Holdings.{AreNamed, ChangesJob, DropsJob, HoldsJob, IsFreshTable, IsSameTable, LooksAt, LooksOnce, SeenJob, count_of_desk, job_at, numbered_job, open_at, open_in}
+use Rattle.job_pool.specs.Holdings.{AreUnderNames, ChangesJob, DropsJob, HoldsJob, IsFreshTable, IsSameTable, LooksAt, LooksOnce, SeenJob, count_of_desk, held_job_at, numbered_job, open_at, open_in}
 
 module _ {X : Type 0} where
   pub set_here : (l : List X) (d : ℕ) (x : X) → d < length l → slice_get (set l d x) d ≡ Some x
@@ -61,7 +61,7 @@ module _ (desks now : List (BTreeMap ℕ SeenJob)) (id : JobId) (old new : BTree
   pub open_was : open_at desks id.desk ≡ btree_map_len old
   open_was = ap count_of_desk was
 
-  pub job_was : job_at desks id ≡ tree.get nat_cmp old id.number
+  pub job_was : held_job_at desks id ≡ tree.get nat_cmp old id.number
   job_was = ap (λ (o : Option (BTreeMap ℕ SeenJob)). numbered_job o id.number) was
 
   pub sum_now : open_in now + btree_map_len old ≡ open_in desks + btree_map_len new
@@ -75,7 +75,7 @@ module _ (desks now : List (BTreeMap ℕ SeenJob)) (id : JobId) (old new : BTree
     other_desks = λ d differs. ap count_of_desk (desk_other d differs);
   }
     where
-      other_job : (other : JobId) → other ≢ id → job_at now other ≡ job_at desks other
+      other_job : (other : JobId) → other ≢ id → held_job_at now other ≡ held_job_at desks other
       other_job other differs =
           elim (cases_eq other.desk id.desk) [
             | inl same ↦
@@ -96,7 +96,7 @@ module _ (desks now : List (BTreeMap ℕ SeenJob)) (id : JobId) (old new : BTree
     all = let sum = sum_now in omega (arith, sum, count);
   }
     where
-      same_job : (other : JobId) → job_at now other ≡ job_at desks other
+      same_job : (other : JobId) → held_job_at now other ≡ held_job_at desks other
       same_job other =
           elim (cases_eq other.desk id.desk) [
             | inl same ↦
@@ -116,10 +116,10 @@ module _ (desks now : List (BTreeMap ℕ SeenJob)) (id : JobId) (old new : BTree
           ]
 
 -- names stay right
-pub named_by : (desks now : List (BTreeMap ℕ SeenJob)) (id : JobId) (held : Option SeenJob) → AreNamed desks → ChangesJob desks id held now → ((h : SeenJob) → held ≡ Some h → h.job.id ≡ id) → AreNamed now
+pub named_by : (desks now : List (BTreeMap ℕ SeenJob)) (id : JobId) (held : Option SeenJob) → AreUnderNames desks → ChangesJob desks id held now → ((h : SeenJob) → held ≡ Some h → h.job.id ≡ id) → AreUnderNames now
 named_by desks now id held named change own other h found =
     elim (named_cases other id) [
-      | inl same ↦ own h (sym change.here ∙ (ap (job_at now) (sym same) ∙ found)) ∙ sym same
+      | inl same ↦ own h (sym change.here ∙ (ap (held_job_at now) (sym same) ∙ found)) ∙ sym same
       | inr differs ↦ named other h (sym (change.others other differs) ∙ found)
     ]
   where
@@ -134,7 +134,7 @@ named_by desks now id held named change own other h found =
           | inr apart ↦ inr (λ same. apart (ap (λ (j : JobId). j.desk) same))
         ]
 
-pub named_same : (desks now : List (BTreeMap ℕ SeenJob)) → AreNamed desks → IsSameTable desks now → AreNamed now
+pub named_same : (desks now : List (BTreeMap ℕ SeenJob)) → AreUnderNames desks → IsSameTable desks now → AreUnderNames now
 named_same desks now named same id h found = named id h (sym (same.jobs id) ∙ found)
 
 -- ---- what is done at a desk
@@ -143,7 +143,7 @@ module _ (desks : List (BTreeMap ℕ SeenJob)) (id : JobId) (old new : BTreeMap 
   abbrev now_set : List (BTreeMap ℕ SeenJob)
   now_set = set desks id.desk new
 
-  pub holds_job : (held : SeenJob) → job_at desks id ≡ None → tree.get nat_cmp new id.number ≡ Some held → ((n : ℕ) → n ≢ id.number → tree.get nat_cmp new n ≡ tree.get nat_cmp old n) → btree_map_len new ≡ btree_map_len old + 1 → HoldsJob desks id held now_set
+  pub holds_job : (held : SeenJob) → held_job_at desks id ≡ None → tree.get nat_cmp new id.number ≡ Some held → ((n : ℕ) → n ≢ id.number → tree.get nat_cmp new n ≡ tree.get nat_cmp old n) → btree_map_len new ≡ btree_map_len old + 1 → HoldsJob desks id held now_set
   holds_job held none here others count = record {
     was_none = none;
     changes = changes desks now_set id old new was refl (Some held) here others;
@@ -159,7 +159,7 @@ module _ (desks : List (BTreeMap ℕ SeenJob)) (id : JobId) (old new : BTreeMap 
     all = let sum = sum_now desks now_set id old new was refl in omega (arith, sum, count);
   }
 
-  pub looks_job : (held later : SeenJob) (told : Progress) → AreNamed desks → tree.get nat_cmp old id.number ≡ Some held → later.job ≡ held.job → LooksOnce held.sight told later.sight
+  pub looks_job : (held later : SeenJob) (told : Progress) → AreUnderNames desks → tree.get nat_cmp old id.number ≡ Some held → later.job ≡ held.job → LooksOnce held.sight told later.sight
       → held.sight.board.job ≡ held.job.id.number → held.sight.board.issued ≡ held.job.job.credit
       → tree.get nat_cmp new id.number ≡ Some later → ((n : ℕ) → n ≢ id.number → tree.get nat_cmp new n ≡ tree.get nat_cmp old n) → btree_map_len new ≡ btree_map_len old
       → LooksAt desks id held told now_set
@@ -213,25 +213,25 @@ fresh_table desks fresh = record { jobs = λ id. no_job desks id.desk id.number 
 
 -- ---- a look
 
-module _ (desks : List (BTreeMap ℕ SeenJob)) (id : JobId) (old new : BTreeMap ℕ SeenJob) (was : slice_get desks id.desk ≡ Some old) (named : AreNamed desks) where
+module _ (desks : List (BTreeMap ℕ SeenJob)) (id : JobId) (old new : BTreeMap ℕ SeenJob) (was : slice_get desks id.desk ≡ Some old) (named : AreUnderNames desks) where
   abbrev IsLooked : Progress → Type 0
   IsLooked told = (o : SeenJob) × (n : SeenJob) × (tree.get nat_cmp old id.number ≡ Some o) × (n.job ≡ o.job) × LooksOnce o.sight told n.sight
       × (o.sight.board.job ≡ o.job.id.number) × (o.sight.board.issued ≡ o.job.job.credit) × (tree.get nat_cmp new id.number ≡ Some n)
 
   abbrev Looked : Option Progress → Type 0
-  Looked result = AreNamed (set desks id.desk new) × (open_in (set desks id.desk new) ≡ open_in desks)
-      × MatchOption result ((job_at desks id ≡ None) × (set desks id.desk new ≡ desks))
-      (λ told. (held : SeenJob) × (job_at desks id ≡ Some held) × LooksAt desks id held told (set desks id.desk new))
+  Looked result = AreUnderNames (set desks id.desk new) × (open_in (set desks id.desk new) ≡ open_in desks)
+      × MatchOption result ((held_job_at desks id ≡ None) × (set desks id.desk new ≡ desks))
+      (λ told. (held : SeenJob) × (held_job_at desks id ≡ Some held) × LooksAt desks id held told (set desks id.desk new))
 
   pub looked : (result : Option Progress) → IfSome result IsLooked → IfNone result ((tree.get nat_cmp old id.number ≡ None) × (new ≡ old)) → ((n : ℕ) → n ≢ id.number → tree.get nat_cmp new n ≡ tree.get nat_cmp old n) → btree_map_len new ≡ btree_map_len old → Looked result
   looked None seen none others count =
       let same : set desks id.desk new ≡ desks = same_desk desks id old new was none.1 in
-      (subst AreNamed (sym same) named, ap open_in same, (job_was desks desks id old old was (sym (same_desk desks id old old was refl)) ∙ none.0, same))
+      (subst AreUnderNames (sym same) named, ap open_in same, (job_was desks desks id old old was (sym (same_desk desks id old old was refl)) ∙ none.0, same))
   looked (Some told) seen none others count =
       let o = seen.0 in
       let n = seen.1 in
       let looks : LooksAt desks id o told (set desks id.desk new) = looks_job desks id old new was o n told named seen.2 seen.3 seen.4 seen.5 seen.6 seen.7 others count in
-      let there : job_at desks id ≡ Some o = job_was desks desks id old old was (sym (same_desk desks id old old was refl)) ∙ seen.2 in (
+      let there : held_job_at desks id ≡ Some o = job_was desks desks id old old was (sym (same_desk desks id old old was refl)) ∙ seen.2 in (
         named_by desks (set desks id.desk new) id (Some (record { job = o.job; sight = looks.later })) named looks.changes (λ h e. ap (λ (j : PooledJob). j.id) (job_is h o looks.later e) ∙ named id o there),
         looks.all,
         (o, there, looks),
@@ -241,7 +241,7 @@ module _ (desks : List (BTreeMap ℕ SeenJob)) (id : JobId) (old new : BTreeMap 
       job_is h o later e = let same : record { job = o.job; sight = later } ≡ h = cc in sym (ap (λ (s : SeenJob). s.job) same)
 
 -- a job that is held is at a desk of the table
-pub job_below : (desks : List (BTreeMap ℕ SeenJob)) (id : JobId) (held : SeenJob) → job_at desks id ≡ Some held → id.desk < length desks
+pub job_below : (desks : List (BTreeMap ℕ SeenJob)) (id : JobId) (held : SeenJob) → held_job_at desks id ≡ Some held → id.desk < length desks
 job_below desks id held found = below desks id.desk found
   where
     below : (l : List (BTreeMap ℕ SeenJob)) (d : ℕ) → numbered_job (slice_get l d) id.number ≡ Some held → d < length l
@@ -254,11 +254,11 @@ no_held o held none some = cc
 
 -- at the desk of this number, which is the name's
 abbrev pub IsLookedAt : List (BTreeMap ℕ SeenJob) → JobId → ℕ → BTreeMap ℕ SeenJob → Option Progress → Type 0
-IsLookedAt desks id d new result = AreNamed (set desks d new) × (open_in (set desks d new) ≡ open_in desks)
-    × MatchOption result ((job_at desks id ≡ None) × (set desks d new ≡ desks))
-    (λ told. (held : SeenJob) × (job_at desks id ≡ Some held) × LooksAt desks id held told (set desks d new))
+IsLookedAt desks id d new result = AreUnderNames (set desks d new) × (open_in (set desks d new) ≡ open_in desks)
+    × MatchOption result ((held_job_at desks id ≡ None) × (set desks d new ≡ desks))
+    (λ told. (held : SeenJob) × (held_job_at desks id ≡ Some held) × LooksAt desks id held told (set desks d new))
 
-pub looked_at : (desks : List (BTreeMap ℕ SeenJob)) (id : JobId) (d : ℕ) (old new : BTreeMap ℕ SeenJob) → d ≡ id.desk → slice_get desks d ≡ Some old → AreNamed desks → (result : Option Progress)
+pub looked_at : (desks : List (BTreeMap ℕ SeenJob)) (id : JobId) (d : ℕ) (old new : BTreeMap ℕ SeenJob) → d ≡ id.desk → slice_get desks d ≡ Some old → AreUnderNames desks → (result : Option Progress)
     → IfSome result (λ told. (o : SeenJob) × (n : SeenJob) × (tree.get nat_cmp old id.number ≡ Some o) × (n.job ≡ o.job) × LooksOnce o.sight told n.sight
     × (o.sight.board.job ≡ o.job.id.number) × (o.sight.board.issued ≡ o.job.job.credit) × (tree.get nat_cmp new id.number ≡ Some n))
     → IfNone result ((tree.get nat_cmp old id.number ≡ None) × (new ≡ old)) → ((n : ℕ) → n ≢ id.number → tree.get nat_cmp new n ≡ tree.get nat_cmp old n) → btree_map_len new ≡ btree_map_len old → IsLookedAt desks id d new result

@@ -4,21 +4,21 @@ use Rattle.std.proofs.lemmas.Bool.{cases_eq}
 use Rattle.std.specs.BTreeMap.{BTreeMap}
 use Rattle.seat_log.specs.Seated.{SeatPart}
 use Rattle.server_state.specs.declared.job_id.JobId.{JobId}
-use Rattle.job_pool.specs.Holdings.{DropsJob, HasRoom, HoldsJob, IsSameTable, IsWithin, PoolLimits, SeenJob, job_at, limit_at, open_at, open_in}
+use Rattle.job_pool.specs.Holdings.{DropsJob, HasRoom, HoldsJob, IsSameTable, KeepsLimits, PoolLimits, SeenJob, held_job_at, limit_at, open_at, open_in}
 use Rattle.job_pool.specs.PooledJobs.{PooledJob}
 use Rattle.job_pool.specs.PoolSteps.{job_started, over_steps}
 use Rattle.job_pool.specs.declared.pool_step.PoolStep.{PoolStep}
 use Rattle.job_pool.specs.declared.pool_step.PoolStep.TheVariants.{Started}
 use Rattle.job_pool.proofs.PoolParts.{one_step, still_step}
 
-module _ (limits : PoolLimits) (old new : List (BTreeMap ℕ SeenJob)) (within : IsWithin limits old) where
-  pub within_same : IsSameTable old new → IsWithin limits new
+module _ (limits : PoolLimits) (old new : List (BTreeMap ℕ SeenJob)) (within : KeepsLimits limits old) where
+  pub within_same : IsSameTable old new → KeepsLimits limits new
   within_same same = (
     (λ limited. let all = within.0 limited in let is = same.all in omega (arith, all, is)),
     (λ d limited. let each = within.1 d limited in let is = same.each d in omega (arith, each, is)),
   )
 
-  pub within_held : (id : JobId) (held : SeenJob) → HasRoom limits old id.desk → HoldsJob old id held new → IsWithin limits new
+  pub within_held : (id : JobId) (held : SeenJob) → HasRoom limits old id.desk → HoldsJob old id held new → KeepsLimits limits new
   within_held id held room holds = (
     (λ limited. let below = room.all limited in let more = holds.all in omega (arith, below, more)),
     each,
@@ -35,7 +35,7 @@ module _ (limits : PoolLimits) (old new : List (BTreeMap ℕ SeenJob)) (within :
             | inr apart ↦ let was = within.1 d limited in let is = holds.changes.other_desks d apart in omega (arith, was, is)
           ]
 
-  pub within_dropped : (id : JobId) (held : SeenJob) → DropsJob old id held new → IsWithin limits new
+  pub within_dropped : (id : JobId) (held : SeenJob) → DropsJob old id held new → KeepsLimits limits new
   within_dropped id held drops = (
     (λ limited. let all = within.0 limited in let less = drops.all in omega (arith, all, less)),
     each,
@@ -72,10 +72,10 @@ held_dropped old mid new id held given holds drops = record {
           | inr apart ↦ inr (λ same. apart (ap (λ (j : JobId). j.desk) same))
         ]
 
-    same_job : (other : JobId) → job_at new other ≡ job_at old other
+    same_job : (other : JobId) → held_job_at new other ≡ held_job_at old other
     same_job other =
         elim (named_cases other id) [
-          | inl same ↦ ap (job_at new) same ∙ (drops.changes.here ∙ (sym holds.was_none ∙ sym (ap (job_at old) same)))
+          | inl same ↦ ap (held_job_at new) same ∙ (drops.changes.here ∙ (sym holds.was_none ∙ sym (ap (held_job_at old) same)))
           | inr apart ↦ drops.changes.others other apart ∙ holds.changes.others other apart
         ]
 

@@ -62,6 +62,6 @@ served_from n (Queued m x ∷ es) = served_from n es
 served_from n (Served m x ∷ es) = if m == n then x ∷ served_from n es else served_from n es
 
 -- what waits in a flow
-abbrev pub waiting_of : {X : Type 0} → ℕ → List (FairFlow X) → List X
-waiting_of n [] = []
-waiting_of n (f ∷ fs) = if f.number == n then f.waiting else waiting_of n fs
+abbrev pub flow_waiting : {X : Type 0} → ℕ → List (FairFlow X) → List X
+flow_waiting n [] = []
+flow_waiting n (f ∷ fs) = if f.number == n then f.waiting else flow_waiting n fs

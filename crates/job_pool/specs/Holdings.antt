@@ -24,8 +24,8 @@ numbered_job None n = None
 numbered_job (Some jobs) n = tree.get nat_cmp jobs n
 
 -- the job of this name
-abbrev pub job_at : List (BTreeMap ℕ SeenJob) → JobId → Option SeenJob
-job_at desks id = numbered_job (slice_get desks id.desk) id.number
+abbrev pub held_job_at : List (BTreeMap ℕ SeenJob) → JobId → Option SeenJob
+held_job_at desks id = numbered_job (slice_get desks id.desk) id.number
 
 -- how many jobs are open at a desk, and in all
 abbrev pub count_of_desk : Option (BTreeMap ℕ SeenJob) → ℕ
@@ -40,23 +40,23 @@ open_in [] = 0
 open_in (jobs ∷ desks) = btree_map_len jobs + open_in desks
 
 -- each job is held under its own name
-abbrev pub AreNamed : List (BTreeMap ℕ SeenJob) → Type 0
-AreNamed desks = (id : JobId) (held : SeenJob) → job_at desks id ≡ Some held → held.job.id ≡ id
+abbrev pub AreUnderNames : List (BTreeMap ℕ SeenJob) → Type 0
+AreUnderNames desks = (id : JobId) (held : SeenJob) → held_job_at desks id ≡ Some held → held.job.id ≡ id
 
 -- ---- changes
 
 -- under this name this is held, and all else is as it was
 pub record ChangesJob (old : List (BTreeMap ℕ SeenJob)) (id : JobId) (held : Option SeenJob)
     (new : List (BTreeMap ℕ SeenJob)) : Type 0 where
-  pub here : job_at new id ≡ held
-  pub others : (other : JobId) → other ≢ id → job_at new other ≡ job_at old other
+  pub here : held_job_at new id ≡ held
+  pub others : (other : JobId) → other ≢ id → held_job_at new other ≡ held_job_at old other
   pub desks : length new ≡ length old
   pub other_desks : (d : ℕ) → d ≢ id.desk → open_at new d ≡ open_at old d
 
 -- a job more
 pub record HoldsJob (old : List (BTreeMap ℕ SeenJob)) (id : JobId) (held : SeenJob)
     (new : List (BTreeMap ℕ SeenJob)) : Type 0 where
-  pub was_none : job_at old id ≡ None
+  pub was_none : held_job_at old id ≡ None
   pub changes : ChangesJob old id (Some held) new
   pub desk : open_at new id.desk ≡ open_at old id.desk + 1
   pub all : open_in new ≡ open_in old + 1
@@ -64,20 +64,20 @@ pub record HoldsJob (old : List (BTreeMap ℕ SeenJob)) (id : JobId) (held : See
 -- a job fewer
 pub record DropsJob (old : List (BTreeMap ℕ SeenJob)) (id : JobId) (held : SeenJob)
     (new : List (BTreeMap ℕ SeenJob)) : Type 0 where
-  pub was : job_at old id ≡ Some held
+  pub was : held_job_at old id ≡ Some held
   pub changes : ChangesJob old id None new
   pub desk : open_at new id.desk + 1 ≡ open_at old id.desk
   pub all : open_in new + 1 ≡ open_in old
 
 -- no job is held
 pub record IsFreshTable (desks : List (BTreeMap ℕ SeenJob)) : Type 0 where
-  pub jobs : (id : JobId) → job_at desks id ≡ None
+  pub jobs : (id : JobId) → held_job_at desks id ≡ None
   pub each : (d : ℕ) → open_at desks d ≡ 0
   pub all : open_in desks ≡ 0
 
 -- all is as it was
 pub record IsSameTable (old new : List (BTreeMap ℕ SeenJob)) : Type 0 where
-  pub jobs : (id : JobId) → job_at new id ≡ job_at old id
+  pub jobs : (id : JobId) → held_job_at new id ≡ held_job_at old id
   pub desks : length new ≡ length old
   pub each : (d : ℕ) → open_at new d ≡ open_at old d
   pub all : open_in new ≡ open_in old
@@ -131,15 +131,15 @@ pub record HasRoom (limits : PoolLimits) (desks : List (BTreeMap ℕ SeenJob)) (
   pub desk : IsBelow (limit_at limits d) (open_at desks d)
 
 -- no limit is passed
-abbrev pub IsWithin : PoolLimits → List (BTreeMap ℕ SeenJob) → Type 0
-IsWithin limits desks = (1 ≤ limits.all → open_in desks ≤ limits.all)
+abbrev pub KeepsLimits : PoolLimits → List (BTreeMap ℕ SeenJob) → Type 0
+KeepsLimits limits desks = (1 ≤ limits.all → open_in desks ≤ limits.all)
     × ((d : ℕ) → 1 ≤ limit_at limits d → open_at desks d ≤ limit_at limits d)
 
 -- ---- a start and a take
 
 -- this very start is held
 abbrev pub IsHeldJob : List (BTreeMap ℕ SeenJob) → PooledJob → Type 0
-IsHeldJob desks job = (held : SeenJob) × (job_at desks job.id ≡ Some held)
+IsHeldJob desks job = (held : SeenJob) × (held_job_at desks job.id ≡ Some held)
     × (held.job.ticket ≡ job.ticket)
 
 -- a job that was just started: nothing was seen of it but its opening
@@ -156,13 +156,13 @@ StartsJob limits has_workers ticket old id job (Ok _) new =
     HasRoom limits old id.desk × (has_workers ≡ true)
     × ((held : SeenJob) × IsFreshJob ticket id job held × HoldsJob old id held new)
 StartsJob limits has_workers ticket old id job (Err code) new =
-    (((code ≡ 81) × ((HasRoom limits old id.desk × (has_workers ≡ true) × (job_at old id ≡ None)) → ⊥))
+    (((code ≡ 81) × ((HasRoom limits old id.desk × (has_workers ≡ true) × (held_job_at old id ≡ None)) → ⊥))
     ⊎ (code ≡ 99))
     × IsSameTable old new
 
 -- A job that was held is given with an end of it, and is held no more.
-abbrev pub TakesJob : List (BTreeMap ℕ SeenJob) → Option (JobId × Result Report ℕ)
+abbrev pub TakesHeldJob : List (BTreeMap ℕ SeenJob) → Option (JobId × Result Report ℕ)
     → List (BTreeMap ℕ SeenJob) → Type 0
-TakesJob old (Some taken) new = (held : SeenJob) × IsJobEnd taken.0 held.job.job taken.1
+TakesHeldJob old (Some taken) new = (held : SeenJob) × IsJobEnd taken.0 held.job.job taken.1
     × DropsJob old taken.0 held new
-TakesJob old None new = new ≡ old
+TakesHeldJob old None new = new ≡ old

@@ -14,7 +14,7 @@ abbrev pub with_step : SeatPart PoolStep → PoolStep → SeatPart PoolStep
 with_step old step = record { number = old.number; part = old.part ++ step ∷ [] }
 
 -- The end of a job was collected, which this seat started under this ticket: an end of that very job.
-pub record Collects (old : SeatPart PoolStep) (ticket : ℕ) (id : JobId) (outcome : Result Report ℕ)
+pub record CollectsEnd (old : SeatPart PoolStep) (ticket : ℕ) (id : JobId) (outcome : Result Report ℕ)
     (new : SeatPart PoolStep) : Type 0 where
   pub job : PooledJob
   pub ticketed : job.ticket ≡ ticket

@@ -3,9 +3,9 @@
 ghost use Rattle.std.specs.Prelude.{◌≡◌, ◌<◌, ◌≤◌, ℕ, true, false, Some, None, IfOk, IfSome, IfNone, MatchOption, OnErr, OnOk, length, option_map};
 ghost use Rattle.server_state.specs.declared.job_id.JobId.{JobId};
 ghost use Rattle.std.proofs.Props.{props};
-ghost use Rattle.job_pool.specs.Holdings.{AreNamed, IsFreshTable, DropsJob, HasRoom, HoldsJob, IsBelow, IsSameTable, LooksAt, SeenJob, job_at, limit_at, open_at, open_in};
+ghost use Rattle.job_pool.specs.Holdings.{AreUnderNames, IsFreshTable, DropsJob, HasRoom, HoldsJob, IsBelow, IsSameTable, LooksAt, SeenJob, held_job_at, limit_at, open_at, open_in};
 
-use crate::open_job::{OpenJob, hold, look_at, release};
+use crate::open_job::{OpenRun, hold, look_at, release};
 use credit_book::Progress;
 use refusal::NoMemory;
 use seat_log::LogName;
@@ -61,10 +61,10 @@ impl PoolLimits {
 /// The jobs that are held, by desk and number.
 #[derive(Drop)]
 pub(crate) struct JobTable<J: LogName> {
-    desks: Vec<BTreeMap<u64, OpenJob<J>>>,
+    desks: Vec<BTreeMap<u64, OpenRun<J>>>,
     count: u64,
     ghost counted: { count ≡ open_in desks.items },
-    ghost named: { AreNamed desks.items } by { Prim.hlevel props },
+    ghost named: { AreUnderNames desks.items } by { Prim.hlevel props },
 }
 
 // Whether a limit allows one job more than these.
@@ -77,7 +77,7 @@ fn is_below(limit: u32, count: u64) -> bool
 
 impl<J: LogName> JobTable<J> {
     ghost use Rattle.std.specs.Prelude.{◌≡◌, ℕ, None};
-    ghost use Rattle.job_pool.specs.Holdings.{job_at, open_in};
+    ghost use Rattle.job_pool.specs.Holdings.{held_job_at, open_in};
 
     /// No job is held, at so many desks.
     pub fn new(alloc: Global, desks: usize) -> Result<JobTable<J>, NoMemory>
@@ -94,16 +94,9 @@ impl<J: LogName> JobTable<J> {
         })
     }
 
-    /// How many jobs are held.
-    pub fn count(&self) -> u64
-        ensures { result ≡ open_in self.now.desks.items }
-    {
-        self.count
-    }
-
     /// The ticket of the job of this name, if it is held.
     pub fn ticket_of(&self, id: JobId) -> Option<u64>
-        ensures { result ≡ option_map (λ held. held.job.ticket) (job_at self.now.desks.items id) }
+        ensures { result ≡ option_map (λ held. held.job.ticket) (held_job_at self.now.desks.items id) }
     {
         let jobs = self.desks.get(usize::from(id.desk))?;
         match jobs.get(&id.number) {
@@ -139,9 +132,9 @@ impl<J: LogName> JobTable<J> {
     }
 
     /// Holds a job under its name, where none is held. Without memory nothing changes.
-    pub fn hold(&mut self, id: JobId, job: OpenJob<J>) -> Result<(), NoMemory>
+    pub fn hold(&mut self, id: JobId, job: OpenRun<J>) -> Result<(), NoMemory>
         requires desk { id.desk < length self.old.desks.items }
-        requires free { job_at self.old.desks.items id ≡ None }
+        requires free { held_job_at self.old.desks.items id ≡ None }
         requires named { job.job.id ≡ id }
         ensures held { OnOk result (HoldsJob self.old.desks.items id job self.new.desks.items) }
         ensures same { OnErr result (IsSameTable self.old.desks.items self.new.desks.items) }
@@ -156,8 +149,8 @@ impl<J: LogName> JobTable<J> {
 
     /// What the board of the job of this name tells now.
     pub fn look(&mut self, id: JobId) -> Option<Progress>
-        ensures { MatchOption result ((job_at self.old.desks.items id ≡ None) × (self.new.desks.items ≡ self.old.desks.items))
-            (λ told. (held : SeenJob) × (job_at self.old.desks.items id ≡ Some held)
+        ensures { MatchOption result ((held_job_at self.old.desks.items id ≡ None) × (self.new.desks.items ≡ self.old.desks.items))
+            (λ told. (held : SeenJob) × (held_job_at self.old.desks.items id ≡ Some held)
             × LooksAt self.old.desks.items id held told self.new.desks.items) }
     {
         let desk = usize::from(id.desk);
@@ -168,8 +161,8 @@ impl<J: LogName> JobTable<J> {
     }
 
     /// Gives up the job of this name, which is held.
-    pub fn release(&mut self, id: JobId) -> OpenJob<J>
-        requires { (held : SeenJob) × (job_at self.old.desks.items id ≡ Some held) }
+    pub fn release(&mut self, id: JobId) -> OpenRun<J>
+        requires { (held : SeenJob) × (held_job_at self.old.desks.items id ≡ Some held) }
         ensures { DropsJob self.old.desks.items id result self.new.desks.items }
     {
         match release(&mut self.desks[usize::from(id.desk)], id.number) {

@@ -31,5 +31,5 @@ mod open_job;
 mod server_pool;
 
 pub use job_table::PoolLimits;
-pub use open_job::OpenJob;
+pub use open_job::OpenRun;
 pub use server_pool::JobPool;

@@ -18,7 +18,7 @@ use std::sync::Arc;
 /// A note of the job's start, and its board with a reader. Contracts see it as the job and what was
 /// seen.
 #[derive(Drop)]
-pub struct OpenJob<J: LogName> {
+pub struct OpenRun<J: LogName> {
     pub(crate) ticket: u64,
     pub(crate) id: JobId,
     pub(crate) note: LogNote<PoolStep, J>,
@@ -26,7 +26,7 @@ pub struct OpenJob<J: LogName> {
     pub(crate) reader: Reader,
 }
 
-impl<J: LogName> Model for OpenJob<J> {
+impl<J: LogName> Model for OpenRun<J> {
     ghost use Rattle.std.specs.Prelude.{◌≡◌};
     ghost use Rattle.std.specs.Arc.{arc_value};
     ghost use Rattle.job_pool.specs.Holdings.{SeenJob};
@@ -41,7 +41,7 @@ impl<J: LogName> Model for OpenJob<J> {
         × (o.reader.board.issued ≡ (noted_job o.note.part o.ticket o.id).job.credit) };
 }
 
-impl<J: LogName> OpenJob<J> {
+impl<J: LogName> OpenRun<J> {
     ghost use Rattle.std.specs.Prelude.{◌≡◌};
     ghost use Rattle.std.specs.Arc.{arc_value};
     ghost use Rattle.job_pool.specs.Holdings.{LooksOnce};
@@ -55,7 +55,7 @@ impl<J: LogName> OpenJob<J> {
         note: LogNote<PoolStep, J>,
         board: Arc<Board>,
         reader: Reader,
-    ) -> OpenJob<J>
+    ) -> OpenRun<J>
         requires note { (note.number ≡ 0)
             × HasTicket note.part (record { ticket = ticket; id = id; job = job.now }) }
         requires board { (reader.board ≡ arc_value board) × (reader.board.job ≡ id.number)
@@ -66,7 +66,7 @@ impl<J: LogName> OpenJob<J> {
         } }
     {
         let _ = job;
-        OpenJob {
+        OpenRun {
             ticket,
             id,
             note,
@@ -97,16 +97,16 @@ impl<J: LogName> OpenJob<J> {
     pub(crate) fn into_note(self) -> LogNote<PoolStep, J>
         ensures { (result.number ≡ 0) × HasTicket result.part self.job }
     {
-        let OpenJob { note, .. } = self;
+        let OpenRun { note, .. } = self;
         note
     }
 }
 
 /// Notes a job under a number that none has.
 pub(crate) fn hold<J: LogName>(
-    jobs: &mut BTreeMap<u64, OpenJob<J>>,
+    jobs: &mut BTreeMap<u64, OpenRun<J>>,
     number: u64,
-    job: OpenJob<J>,
+    job: OpenRun<J>,
 ) -> Result<(), NoMemory>
     requires { tree.get nat_cmp jobs.old number ≡ None }
     ensures here { OnOk result (tree.get nat_cmp jobs.new number ≡ Some job) }
@@ -126,9 +126,9 @@ pub(crate) fn hold<J: LogName>(
 
 /// Gives up the job of a number.
 pub(crate) fn release<J: LogName>(
-    jobs: &mut BTreeMap<u64, OpenJob<J>>,
+    jobs: &mut BTreeMap<u64, OpenRun<J>>,
     number: u64,
-) -> Option<OpenJob<J>>
+) -> Option<OpenRun<J>>
     ensures was { result ≡ tree.get nat_cmp jobs.old number }
     ensures gone { tree.get nat_cmp jobs.new number ≡ None }
     ensures others { (n : ℕ) → n ≢ number
@@ -141,7 +141,7 @@ pub(crate) fn release<J: LogName>(
 
 /// What the board of the job of this number tells now.
 pub(crate) fn look_at<J: LogName>(
-    jobs: &mut BTreeMap<u64, OpenJob<J>>,
+    jobs: &mut BTreeMap<u64, OpenRun<J>>,
     number: u64,
 ) -> Option<Progress>
     ensures some { IfSome result (λ told. (old : SeenJob) × (new : SeenJob)

@@ -4,7 +4,7 @@
 ghost use Rattle.std.specs.Prelude.{◌≡◌, ◌++◌, [], All, IfOk, MatchOption, MatchResult, length, option_to_list};
 ghost use mathlib.Core.List.{IsPrefix};
 ghost use Rattle.job_pool.specs.PoolSteps.{job_ended, job_taken, over_steps};
-ghost use Rattle.job_pool.specs.SeatSteps.{Collects, no_steps, with_step};
+ghost use Rattle.job_pool.specs.SeatSteps.{CollectsEnd, no_steps, with_step};
 ghost use Rattle.job_pool.specs.declared.pool_step.PoolStep.TheVariants.{Put, Started};
 
 use crate::pool_queue::PoolQueue;
@@ -118,7 +118,7 @@ impl<J: LogName> PoolPort<J> {
     /// the job's start, its name, and what it came to.
     pub(crate) fn collect<R: Wait>(&mut self, rt: &R) -> Option<(u64, JobId, Result<Report, u8>)>
         ensures { MatchOption result (self.new ≡ self.old)
-            (λ told. Collects self.old told.0 told.1 told.2 self.new) }
+            (λ told. CollectsEnd self.old told.0 told.1 told.2 self.new) }
     {
         let lock: &PoolLock<J> = &self.lock;
         lock.queue.lock(rt).collect(&lock.log, &mut self.seat)
@@ -167,13 +167,6 @@ impl<J: LogName> PoolSignal<J> {
         lock.queue.lock(rt).close();
         lock.work.notify_all();
         lock.ends.notify_all();
-    }
-
-    /// Another one of the same pool.
-    pub fn another(&self) -> Result<PoolSignal<J>, NoMemory> {
-        Ok(PoolSignal {
-            lock: Arc::try_clone(&self.lock)?,
-        })
     }
 }
 

@@ -3,7 +3,7 @@
 
 ghost use Rattle.std.specs.Prelude.{◌≡◌, ◌∷◌, ◌++◌, [], IfOk, IfSome, MatchOption, MatchResult, ℕ, length, option_to_list};
 ghost use Rattle.job_pool.specs.PoolSteps.{job_ended, job_taken, over_steps};
-ghost use Rattle.job_pool.specs.SeatSteps.{Collects, with_step};
+ghost use Rattle.job_pool.specs.SeatSteps.{CollectsEnd, with_step};
 ghost use Rattle.job_pool.specs.declared.pool_step.PoolStep.TheVariants.{Ended, Put, Started, Taken};
 
 use crate::fair_queue::FairQueue;
@@ -162,7 +162,7 @@ impl<J: LogName> PoolQueue<J> {
     ) -> Option<(u64, JobId, Result<Report, u8>)>
         requires { seat.old.number ≡ 0 }
         ensures { MatchOption result (seat.new ≡ seat.old)
-            (λ told. Collects seat.old told.0 told.1 told.2 seat.new) }
+            (λ told. CollectsEnd seat.old told.0 told.1 told.2 seat.new) }
     {
         let ended = self.over.pop_front()?;
         log.add(seat, &mut self.keeper, &ended);

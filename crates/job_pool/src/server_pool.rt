@@ -2,12 +2,12 @@
 
 ghost use Rattle.std.specs.Prelude.{◌≡◌, ◌+◌, Bool, true, false, None, Err, length};
 ghost use Rattle.std.proofs.Props.{props};
-ghost use Rattle.job_pool.specs.Holdings.{HasRoom, IsFreshTable, IsWithin, job_at};
+ghost use Rattle.job_pool.specs.Holdings.{HasRoom, IsFreshTable, KeepsLimits, held_job_at};
 ghost use Rattle.job_pool.specs.PoolSteps.{job_started, over_steps};
 
 use crate::job_table::{JobTable, PoolLimits};
 use crate::job_watch::JobWatch;
-use crate::open_job::OpenJob;
+use crate::open_job::OpenRun;
 use crate::pool_ends::PoolPort;
 use crate::pool_step::PoolMark;
 use crate::pooled_run::{NO_MEMORY, PooledEnd, PooledRun, room_of};
@@ -36,7 +36,7 @@ pub struct JobPool<'a, R, W, J: LogName> {
     tickets: u64,
     has_workers: bool,
     ghost ticketed: { tickets ≡ length (over_steps job_started port.part) },
-    ghost within: { IsWithin limits table.desks.items } by { Prim.hlevel props },
+    ghost within: { KeepsLimits limits table.desks.items } by { Prim.hlevel props },
 }
 
 impl<'a, R, W, J: LogName> JobPool<'a, R, W, J> {
@@ -80,9 +80,9 @@ fn may_start<J: LogName>(
     id: JobId,
 ) -> bool
     ensures yes { result ≡ true → HasRoom limits.now table.now.desks.items id.desk
-        × (has_workers ≡ true) × (job_at table.now.desks.items id ≡ None) }
+        × (has_workers ≡ true) × (held_job_at table.now.desks.items id ≡ None) }
     ensures no { result ≡ false → (HasRoom limits.now table.now.desks.items id.desk
-        × (has_workers ≡ true) × (job_at table.now.desks.items id ≡ None)) → ⊥ }
+        × (has_workers ≡ true) × (held_job_at table.now.desks.items id ≡ None)) → ⊥ }
 {
     if !has_workers {
         return false;
@@ -104,7 +104,7 @@ fn no_memory(job: Job) -> Result<(), RefusedStart>
 }
 
 impl<R: Wait, W: JobWatch<R>, J: LogName> Jobs for JobPool<'_, R, W, J> {
-    ghost use Rattle.job_pool.specs.Holdings.{IsHeldJob, StartsJob, TakesJob, job_at, looks_under, open_in};
+    ghost use Rattle.job_pool.specs.Holdings.{IsHeldJob, StartsJob, TakesHeldJob, held_job_at, looks_under, open_in};
     ghost use Rattle.job_pool.specs.SeatSteps.{CollectsJob, PutsJob};
     ghost use Rattle.std.specs.Prelude.{◌≡◌};
 
@@ -118,11 +118,11 @@ impl<R: Wait, W: JobWatch<R>, J: LogName> Jobs for JobPool<'_, R, W, J> {
         × (q.limits ≡ p.limits) × (q.has_workers ≡ p.has_workers) };
 
     ghost looks = { λ p id told q.
-        looks_under p.table.desks.items id (job_at p.table.desks.items id) told q.table.desks.items
+        looks_under p.table.desks.items id (held_job_at p.table.desks.items id) told q.table.desks.items
         × (q.port ≡ p.port) × (q.limits ≡ p.limits) × (q.has_workers ≡ p.has_workers) };
 
     ghost takes = { λ p result q.
-        TakesJob p.table.desks.items result q.table.desks.items
+        TakesHeldJob p.table.desks.items result q.table.desks.items
         × CollectsJob (IsHeldJob p.table.desks.items) p.port result q.port
         × (q.limits ≡ p.limits) × (q.has_workers ≡ p.has_workers) };
 
@@ -146,7 +146,7 @@ impl<R: Wait, W: JobWatch<R>, J: LogName> Jobs for JobPool<'_, R, W, J> {
         let Ok(room) = room_of(alloc, end) else {
             return no_memory(job);
         };
-        let open_job = OpenJob::new(ticket, id, &job, self.port.note(), board, reader);
+        let open_job = OpenRun::new(ticket, id, &job, self.port.note(), board, reader);
         let Ok(()) = self.table.hold(id, open_job) else {
             return no_memory(job);
         };

@@ -5,7 +5,7 @@ use mathlib.Core.Option.{some, some-ne-none, some-injective}
 use mathlib.Core.List.{IsPrefix}
 use lib.ListN.{get_elem?}
 use Rattle.seat_log.specs.declared.log_view.SeatEntry.{SeatEntry}
-use Rattle.seat_log.specs.LogParts.{part_of}
+use Rattle.seat_log.specs.LogParts.{log_part}
 
 is_same : (m n : ℕ) → m ≡ n → (m == n) ≡ true
 is_same m n is = grind (arith, nat_tests)
@@ -20,18 +20,18 @@ module _ {E : Type 0} where
   if_false : (b : Bool) (x y : List E) → b ≡ false → (if b then x else y) ≡ y
   if_false b x y e = ap (λ (t : Bool). if t then x else y) e
 
-  pub part_own : (n : ℕ) (entries : List (SeatEntry E)) (e : SeatEntry E) → e.seat ≡ n → part_of n (entries ++ e ∷ []) ≡ part_of n entries ++ e.entry ∷ []
+  pub part_own : (n : ℕ) (entries : List (SeatEntry E)) (e : SeatEntry E) → e.seat ≡ n → log_part n (entries ++ e ∷ []) ≡ log_part n entries ++ e.entry ∷ []
   part_own n [] e is = if_true (e.seat == n) (e.entry ∷ []) [] (is_same e.seat n is)
   part_own n (x ∷ xs) e is =
-      let rest_is : part_of n (xs ++ e ∷ []) ≡ part_of n xs ++ e.entry ∷ [] = part_own n xs e is in
+      let rest_is : log_part n (xs ++ e ∷ []) ≡ log_part n xs ++ e.entry ∷ [] = part_own n xs e is in
       by_test (x.seat == n) rest_is
     where
-      by_test : (b : Bool) → part_of n (xs ++ e ∷ []) ≡ part_of n xs ++ e.entry ∷ []
-          → (if b then x.entry ∷ part_of n (xs ++ e ∷ []) else part_of n (xs ++ e ∷ [])) ≡ (if b then x.entry ∷ part_of n xs else part_of n xs) ++ e.entry ∷ []
+      by_test : (b : Bool) → log_part n (xs ++ e ∷ []) ≡ log_part n xs ++ e.entry ∷ []
+          → (if b then x.entry ∷ log_part n (xs ++ e ∷ []) else log_part n (xs ++ e ∷ [])) ≡ (if b then x.entry ∷ log_part n xs else log_part n xs) ++ e.entry ∷ []
       by_test true rest_is = ap (λ (l : List E). x.entry ∷ l) rest_is
       by_test false rest_is = rest_is
 
-  pub part_other : (n : ℕ) (entries : List (SeatEntry E)) (e : SeatEntry E) → e.seat ≢ n → part_of n (entries ++ e ∷ []) ≡ part_of n entries
+  pub part_other : (n : ℕ) (entries : List (SeatEntry E)) (e : SeatEntry E) → e.seat ≢ n → log_part n (entries ++ e ∷ []) ≡ log_part n entries
   part_other n [] e differs = if_false (e.seat == n) (e.entry ∷ []) [] (is_other e.seat n differs)
   part_other n (x ∷ xs) e differs = ap (λ (l : List E). if x.seat == n then x.entry ∷ l else l) (part_other n xs e differs)
 
@@ -47,7 +47,7 @@ module _ {E : Type 0} where
   prefix_same a b same = ([], append_nil a ∙ same)
 
   -- a beginning of a part stays one, whoever adds
-  pub prefix_more : (known : List E) (n : ℕ) (entries : List (SeatEntry E)) (e : SeatEntry E) → IsPrefix known (part_of n entries) → IsPrefix known (part_of n (entries ++ e ∷ []))
+  pub prefix_more : (known : List E) (n : ℕ) (entries : List (SeatEntry E)) (e : SeatEntry E) → IsPrefix known (log_part n entries) → IsPrefix known (log_part n (entries ++ e ∷ []))
   prefix_more known n entries e begins = by_test (e.seat == n) refl
     where
       same_is : (e.seat == n) ≡ true → e.seat ≡ n
@@ -56,7 +56,7 @@ module _ {E : Type 0} where
       other_is : (e.seat == n) ≡ false → e.seat ≢ n
       other_is is = grind (arith, nat_tests)
 
-      by_test : (b : Bool) → (e.seat == n) ≡ b → IsPrefix known (part_of n (entries ++ e ∷ []))
+      by_test : (b : Bool) → (e.seat == n) ≡ b → IsPrefix known (log_part n (entries ++ e ∷ []))
       by_test true is = (
         begins.0 ++ e.entry ∷ [],
         sym (append_assoc known begins.0 (e.entry ∷ [])) ∙ (ap (λ (l : List E). l ++ e.entry ∷ []) begins.1 ∙ sym (part_own n entries e (same_is is))),

@@ -7,9 +7,9 @@ use Rattle.atomic_table.specs.Table.{State, Me, Step, keeps, Allows, Splits, Joi
 use Rattle.atomic_table.proofs.Lists.{at_set, set_again}
 use Rattle.seat_log.specs.declared.log_view.SeatEntry.{SeatEntry}
 use Rattle.seat_log.specs.declared.log_view.LogView.{LogView}
-use Rattle.seat_log.specs.LogParts.{part_of}
+use Rattle.seat_log.specs.LogParts.{log_part}
 use mathlib.Core.List.{IsPrefix}
-use Rattle.seat_log.specs.LogRule.{blank_view, keeper_of, founder, seat_of_part, with_log, without_log, only_log, one_seat_more, new_seat, note_of, with_note, without_note, only_note, FitsLog, IsLog, Adds, Reads}
+use Rattle.seat_log.specs.LogRule.{blank_view, keeper_of, log_founder, seat_of_part, with_log, without_log, only_log, one_seat_more, new_seat, part_note, with_note, without_note, only_note, FitsLog, IsLog, AddsToLog, ReadsPart}
 use Rattle.seat_log.proofs.LogLists.{part_own, part_other, prefix_same, prefix_more, at_end}
 
 off : false ≡ true → ⊥
@@ -50,10 +50,10 @@ module _ {E : Type 0} where
   fits_moved : (seat now door : ℕ) (place : ℕ → ℕ) (opened : ℕ) (entries : List (SeatEntry E)) (by : ℕ) (v : (LogView E)) → by ≢ seat → FitsLog seat door place opened entries by v → FitsLog now door place opened entries by v
   fits_moved seat now door place opened entries by v apart f = record { keeping = λ k. absurd (apart (f.keeping k).0); opening = f.opening; sitting = f.sitting; noting = f.noting }
 
-  pub begins : IsLog (founder {E = E} ∷ [])
+  pub begins : IsLog (log_founder {E = E} ∷ [])
   begins = record { keeper_at = 0; opener_at = 0; place_of = λ n. 0; opened = 0; entries = []; each = one; others = λ n le. refl }
     where
-      one : (by : ℕ) (v : (LogView E)) → get_elem? (founder {E = E} ∷ []) by ≡ some v → FitsLog 0 0 (λ n. 0) 0 [] by v
+      one : (by : ℕ) (v : (LogView E)) → get_elem? (log_founder {E = E} ∷ []) by ≡ some v → FitsLog 0 0 (λ n. 0) 0 [] by v
       one zero v e = subst (FitsLog 0 0 (λ n. 0) 0 [] 0) (some-injective _ _ e) (record { keeping = λ k. (refl, refl); opening = λ k. (refl, refl); sitting = λ s. absurd (off s); noting = λ s. absurd (off s) })
       one (suc by) v e = absurd (some-ne-none v (sym e))
 
@@ -154,14 +154,14 @@ module _ {E : Type 0} where
             noting = f.noting;
           }
 
-      new : (now : ℕ) → (id ≡ kept.opener_at) × (v.opened ≡ kept.opened) → (now ≡ placed kept.place_of v.opened now v.opened) × (v.opened < kept.opened + 1) × (part_of v.opened kept.entries ≡ [])
+      new : (now : ℕ) → (id ≡ kept.opener_at) × (v.opened ≡ kept.opened) → (now ≡ placed kept.place_of v.opened now v.opened) × (v.opened < kept.opened + 1) × (log_part v.opened kept.entries ≡ [])
       new now known =
           let is = known.1 in
           let it_is : (v.opened == v.opened) ≡ true = grind (arith, nat_tests) in
           (sym (ap (λ (b : Bool). if b then now else kept.place_of v.opened) it_is), omega arith, kept.others v.opened (omega arith))
 
   -- a seat notes what it knows
-  pub notes : (id : ℕ) (v : (LogView E)) → v.is_seat ≡ true → Splits Ruling id v v (note_of v)
+  pub notes : (id : ℕ) (v : (LogView E)) → v.is_seat ≡ true → Splits Ruling id v v (part_note v)
   notes id v sits s kept at =
       let own = (kept.each id v at).sitting sits in
       record {
@@ -170,9 +170,9 @@ module _ {E : Type 0} where
         place_of = kept.place_of;
         opened = kept.opened;
         entries = kept.entries;
-        each = fits_end kept.keeper_at kept.opener_at kept.place_of kept.opened kept.entries (set s.views id v) (note_of v)
+        each = fits_end kept.keeper_at kept.opener_at kept.place_of kept.opened kept.entries (set s.views id v) (part_note v)
             (λ j u was. kept.each j u (subst (λ (l : List (LogView E)). get_elem? l j ≡ some u) (set_again s.views id v at) was))
-            (record { keeping = λ e. absurd (off e); opening = λ e. absurd (off e); sitting = λ e. absurd (off e); noting = λ e. prefix_same v.part (part_of v.number kept.entries) (sym own.2) });
+            (record { keeping = λ e. absurd (off e); opening = λ e. absurd (off e); sitting = λ e. absurd (off e); noting = λ e. prefix_same v.part (log_part v.number kept.entries) (sym own.2) });
         others = kept.others;
       }
 
@@ -217,7 +217,7 @@ module _ {E : Type 0} where
 
   module _ (slots id : ℕ) (me : Me (Unit {0}) (LogView E)) (st : Step (Unit {0})) where
     -- an entry is added by the seat that is the keeper too
-    pub adds : (may : E → Type 0) (e : E) → me.0.is_keeper ≡ true → me.0.is_seat ≡ true → may e → Allows Ruling slots id me 0 (λ n. n) (Adds may st me)
+    pub adds : (may : E → Type 0) (e : E) → me.0.is_keeper ≡ true → me.0.is_seat ≡ true → may e → Allows Ruling slots id me 0 (λ n. n) (AddsToLog may st me)
     adds may e keep sits allowed s kept homes at fits =
         let mine = kept.each id me.0 at in
         let known = mine.keeping keep in
@@ -226,8 +226,8 @@ module _ {E : Type 0} where
         let now : List (SeatEntry E) = me.0.entries ++ more ∷ [] in
         let w = with_log (seat_of_part me.0.number (me.0.part ++ e ∷ [])) (keeper_of now) in
         let longer : now ≡ kept.entries ++ more ∷ [] = ap (λ (l : List (SeatEntry E)). l ++ more ∷ []) known.1 in
-        let part : part_of me.0.number now ≡ me.0.part ++ e ∷ [] =
-        ap (part_of me.0.number) longer ∙ (part_own me.0.number kept.entries more refl ∙ ap (λ (l : List E). l ++ e ∷ []) own.2) in (
+        let part : log_part me.0.number now ≡ me.0.part ++ e ∷ [] =
+        ap (log_part me.0.number) longer ∙ (part_own me.0.number kept.entries more refl ∙ ap (λ (l : List E). l ++ e ∷ []) own.2) in (
           w,
           keeps,
           tt,
@@ -244,19 +244,19 @@ module _ {E : Type 0} where
                   opening = f.opening;
                   sitting = λ srv. let t = f.sitting srv in
                       let differs : me.0.number ≢ u.number = λ same. apart (t.0 ∙ (ap kept.place_of (sym same) ∙ sym own.0)) in
-                      (t.0, t.1, ap (part_of u.number) longer ∙ (part_other u.number kept.entries more differs ∙ t.2));
-                  noting = λ k. subst (λ (l : List (SeatEntry E)). IsPrefix u.known (part_of u.noted l)) (sym longer) (prefix_more u.known u.noted kept.entries more (f.noting k));
+                      (t.0, t.1, ap (log_part u.number) longer ∙ (part_other u.number kept.entries more differs ∙ t.2));
+                  noting = λ k. subst (λ (l : List (SeatEntry E)). IsPrefix u.known (log_part u.noted l)) (sym longer) (prefix_more u.known u.noted kept.entries more (f.noting k));
                 })
                 (record { keeping = λ k. (known.0, refl); opening = λ k. absurd (off k); sitting = λ srv. (own.0, own.1, part); noting = λ k. absurd (off k) });
             others = λ n le. let below = own.1 in
                 let differs : me.0.number ≢ n = λ same. absurd (omega (arith, same, below, le)) in
-                ap (part_of n) longer ∙ (part_other n kept.entries more differs ∙ kept.others n le);
+                ap (log_part n) longer ∙ (part_other n kept.entries more differs ∙ kept.others n le);
           },
           (e, allowed, refl),
         )
 
     -- the note that was taken in is a beginning of the noted seat's part
-    pub reads : me.0.is_seat ≡ true → me.0.is_note ≡ true → Allows Ruling slots id me 0 (λ n. n) (Reads st me)
+    pub reads : me.0.is_seat ≡ true → me.0.is_note ≡ true → Allows Ruling slots id me 0 (λ n. n) (ReadsPart st me)
     reads sits noted s kept homes at fits =
         let mine = kept.each id me.0 at in
         let own = mine.sitting sits in (
@@ -274,6 +274,6 @@ module _ {E : Type 0} where
           },
           (
             refl,
-            λ same. subst (λ (l : List E). IsPrefix me.0.known l) (ap (λ (n : ℕ). part_of n kept.entries) same ∙ own.2) (mine.noting noted),
+            λ same. subst (λ (l : List E). IsPrefix me.0.known l) (ap (λ (n : ℕ). log_part n kept.entries) same ∙ own.2) (mine.noting noted),
           ),
         )

@@ -3,6 +3,6 @@ use Rattle.std.specs.Prelude.{◌==◌, ℕ, List, [], ◌∷◌, if◌then◌el
 use Rattle.seat_log.specs.declared.log_view.SeatEntry.{SeatEntry}
 
 -- the entries of one seat, in order
-abbrev pub part_of : {E : Type 0} → ℕ → List (SeatEntry E) → List E
-part_of n [] = []
-part_of n (e ∷ es) = if e.seat == n then e.entry ∷ part_of n es else part_of n es
+abbrev pub log_part : {E : Type 0} → ℕ → List (SeatEntry E) → List E
+log_part n [] = []
+log_part n (e ∷ es) = if e.seat == n then e.entry ∷ log_part n es else log_part n es

@@ -7,7 +7,7 @@ use Rattle.atomic_table.specs.Table.{Me, Step}
 use Rattle.atomic_table.specs.Seated.{TableId}
 use Rattle.seat_log.specs.declared.log_view.SeatEntry.{SeatEntry}
 use Rattle.seat_log.specs.declared.log_view.LogView.{LogView}
-use Rattle.seat_log.specs.LogParts.{part_of}
+use Rattle.seat_log.specs.LogParts.{log_part}
 
 -- the name of no log
 abbrev pub no_log : TableId
@@ -47,8 +47,8 @@ abbrev pub opener_of : {E : Type 0} → ℕ → LogView E
 opener_of {E} opened = record (blank_view {E = E}) { is_opener = true; opened = opened }
 
 -- the first seat of the table, which is both
-abbrev pub founder : {E : Type 0} → LogView E
-founder {E} = record (blank_view {E = E}) { is_opener = true; is_keeper = true }
+abbrev pub log_founder : {E : Type 0} → LogView E
+log_founder {E} = record (blank_view {E = E}) { is_opener = true; is_keeper = true }
 
 -- a seat of the log, which knows its part
 abbrev pub seat_of_part : {E : Type 0} → ℕ → List E → LogView E
@@ -76,8 +76,8 @@ abbrev pub new_seat : {E : Type 0} → LogView E → LogView E
 new_seat v = seat_of_part v.opened []
 
 -- a note of all that a seat knows
-abbrev pub note_of : {E : Type 0} → LogView E → LogView E
-note_of v = note_of_part v.number v.part
+abbrev pub part_note : {E : Type 0} → LogView E → LogView E
+part_note v = note_of_part v.number v.part
 
 -- a seat that takes in a note, or gives it away
 abbrev pub with_note : {E : Type 0} → LogView E → LogView E → LogView E
@@ -97,8 +97,8 @@ pub record FitsLog {E : Type 0} (keeper_at opener_at : ℕ) (place_of : ℕ → 
   pub keeping : v.is_keeper ≡ true → (place ≡ keeper_at) × (v.entries ≡ entries)
   pub opening : v.is_opener ≡ true → (place ≡ opener_at) × (v.opened ≡ opened)
   pub sitting : v.is_seat ≡ true → (place ≡ place_of v.number) × (v.number < opened)
-      × (part_of v.number entries ≡ v.part)
-  pub noting : v.is_note ≡ true → IsPrefix v.known (part_of v.noted entries)
+      × (log_part v.number entries ≡ v.part)
+  pub noting : v.is_note ≡ true → IsPrefix v.known (log_part v.noted entries)
 
 -- There is one log. One seat of the table knows it whole, and one knows how many seats were opened.
 -- Each seat of the log knows its part. A seat that was not opened has no part. A note has the first
@@ -111,14 +111,14 @@ pub record IsLog {E : Type 0} (views : List (LogView E)) : Type 0 where
   pub entries : List (SeatEntry E)
   pub each : (place : ℕ) (v : LogView E) → get_elem? views place ≡ some v
       → FitsLog keeper_at opener_at place_of opened entries place v
-  pub others : (n : ℕ) → opened ≤ n → part_of n entries ≡ []
+  pub others : (n : ℕ) → opened ≤ n → log_part n entries ≡ []
 
 -- ---- the steps
 
 -- a seat, as the keeper, adds an entry of its own
-abbrev pub Adds : {E S : Type 0} → (E → Type 0) → Step S → Me S (LogView E) → ℕ
+abbrev pub AddsToLog : {E S : Type 0} → (E → Type 0) → Step S → Me S (LogView E) → ℕ
     → Me S (LogView E) → Type 0
-Adds {E} picks s v found w =
+AddsToLog {E} picks s v found w =
     (e : E) × picks e
     × (w ≡ (
       with_log (seat_of_part v.0.number (v.0.part ++ e ∷ []))
@@ -127,5 +127,5 @@ Adds {E} picks s v found w =
     ))
 
 -- what was noted of a seat is the beginning of what it knows
-abbrev pub Reads : {E S : Type 0} → Step S → Me S (LogView E) → ℕ → Me S (LogView E) → Type 0
-Reads s v found w = (w ≡ v) × (v.0.noted ≡ v.0.number → IsPrefix v.0.known v.0.part)
+abbrev pub ReadsPart : {E S : Type 0} → Step S → Me S (LogView E) → ℕ → Me S (LogView E) → Type 0
+ReadsPart s v found w = (w ≡ v) × (v.0.noted ≡ v.0.number → IsPrefix v.0.known v.0.part)

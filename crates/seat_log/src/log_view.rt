@@ -45,17 +45,17 @@ impl LogName for Brand {
 pub struct OneLog;
 
 impl<E> TableRule<(), LogView<E>, ()> for OneLog {
-    ghost use Rattle.seat_log.specs.LogRule.{IsLog, founder};
+    ghost use Rattle.seat_log.specs.LogRule.{IsLog, log_founder};
 
     ghost holds = { λ _ s. IsLog s.views };
 
-    ghost first = { λ _. founder };
+    ghost first = { λ _. log_founder };
 }
 
 /// A seat becomes the keeper too.
-pub struct TakesLog;
+pub struct TakesWholeLog;
 
-impl<E> Join<LogView<E>> for TakesLog {
+impl<E> Join<LogView<E>> for TakesWholeLog {
     ghost use Rattle.seat_log.specs.LogRule.{with_log, blank_view};
 
     ghost both = { with_log };
@@ -100,11 +100,11 @@ impl<E> Split<LogView<E>> for OpensSeat {
 pub struct NotesPart;
 
 impl<E> Split<LogView<E>> for NotesPart {
-    ghost use Rattle.seat_log.specs.LogRule.{note_of};
+    ghost use Rattle.seat_log.specs.LogRule.{part_note};
 
     ghost left = { λ v. v };
 
-    ghost right = { note_of };
+    ghost right = { part_note };
 }
 
 /// A seat takes in a note.
@@ -144,21 +144,21 @@ impl<E> Picks<E> for Brand {
 }
 
 /// One entry more, of the seat that takes the step.
-pub struct AddsEntry<P> {
+pub struct AddsLogEntry<P> {
     of: PhantomData<P>,
 }
 
-impl<E, P: Picks<E>> Play<(), LogView<E>> for AddsEntry<P> {
-    ghost use Rattle.seat_log.specs.LogRule.{Adds};
+impl<E, P: Picks<E>> Play<(), LogView<E>> for AddsLogEntry<P> {
+    ghost use Rattle.seat_log.specs.LogRule.{AddsToLog};
 
-    ghost then = { Adds P.picks };
+    ghost then = { AddsToLog P.picks };
 }
 
 /// The note that the seat took in has the first entries of the noted seat.
 pub struct ReadsNote;
 
 impl<E> Play<(), LogView<E>> for ReadsNote {
-    ghost use Rattle.seat_log.specs.LogRule.{Reads};
+    ghost use Rattle.seat_log.specs.LogRule.{ReadsPart};
 
-    ghost then = { Reads };
+    ghost then = { ReadsPart };
 }

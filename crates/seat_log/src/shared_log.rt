@@ -4,8 +4,8 @@ ghost use Rattle.std.specs.Prelude.{◌≡◌, ◌+◌, [], ◌∷◌, ◌++◌}
 ghost use mathlib.Core.List.{IsPrefix};
 
 use crate::log_view::{
-    AddsEntry, LeavesLog, LeavesNote, LogName, LogView, Logged, NotesPart, OneLog, OpensSeat,
-    Picks, ReadsNote, SparesView, TakesLog, TakesNote,
+    AddsLogEntry, LeavesLog, LeavesNote, LogName, LogView, Logged, NotesPart, OneLog, OpensSeat,
+    Picks, ReadsNote, SparesView, TakesNote, TakesWholeLog,
 };
 use atomic_table::{Seat, Table};
 use refusal::NoMemory;
@@ -23,14 +23,14 @@ pub struct NewLog<E> {
 impl<E> Model for NewLog<E> {
     ghost use Rattle.std.specs.Prelude.{◌≡◌, []};
     ghost use Rattle.atomic_table.specs.Seated.{TableId};
-    ghost use Rattle.seat_log.specs.LogRule.{founder};
+    ghost use Rattle.seat_log.specs.LogRule.{log_founder};
 
     ghost Value = { TableId };
 
     ghost view = { λ l. l.table.shared.table_id };
 
     ghost invariant = { λ l. (l.table.shared.table_id.words ≡ 1)
-        × (l.seat.table_id ≡ l.table.shared.table_id) × (l.seat.me ≡ (founder, [])) };
+        × (l.seat.table_id ≡ l.table.shared.table_id) × (l.seat.me ≡ (log_founder, [])) };
 }
 
 /// The word that all steps are made on, which threads share.
@@ -175,7 +175,7 @@ impl<E, J: LogName> SharedLog<E, J> {
         }
     }
 
-    // Adds the entry that the call picks.
+    // AddsToLog the entry that the call picks.
     fn add_as<P: Picks<E>, T>(
         &self,
         seat: &mut LogSeat<E, J>,
@@ -192,13 +192,13 @@ impl<E, J: LogName> SharedLog<E, J> {
         let held = mem::replace(&mut keeper.seat, spare);
         self.table
             .shared
-            .join_seat::<TakesLog>(&mut seat.seat, held);
-        self.table.shared.load::<AddsEntry<P>>(&mut seat.seat, 0);
+            .join_seat::<TakesWholeLog>(&mut seat.seat, held);
+        self.table.shared.load::<AddsLogEntry<P>>(&mut seat.seat, 0);
         let left = self.table.shared.split_seat::<LeavesLog>(&mut seat.seat);
         keeper.seat = left;
     }
 
-    /// Adds the entry of this item behind all others, as one of this seat.
+    /// AddsToLog the entry of this item behind all others, as one of this seat.
     pub fn add<T: Logged<E>>(
         &self,
         seat: &mut LogSeat<E, J>,

@@ -2,7 +2,7 @@ use Rattle.std.proofs.Common.{◌≡◌, ◌≤◌, ◌+◌, ◌-◌, Some, None
 use Rattle.std.specs.Prelude.{slice_get, slice_index_or}
 use Rattle.std.specs.BTreeMap as tree
 use Rattle.std.specs.Ordering.{nat_cmp}
-use Rattle.job_pool.specs.Holdings.{DropsJob, SeenJob, job_at, open_in}
+use Rattle.job_pool.specs.Holdings.{DropsJob, SeenJob, held_job_at, open_in}
 use Rattle.job_pool.proofs.Desks.{drops_job, index_get, job_below, job_was, named_by, no_held}
 use Rattle.job_pool.proofs.job_table.JobTable.release.Goals as goal
 
@@ -42,7 +42,7 @@ unreachable-requires g c =
     let id = c.args.id in
     let jobs = c.index_mut.result.now in
     let here : slice_get desks id.desk ≡ Some jobs = index_get desks id.desk jobs (job_below desks id c.requires.0 c.requires.1) ∙ ap Some (ap (λ d. slice_index_or desks d jobs) (sym c.from.ensures) ∙ sym c.index_mut.ensures.value) in
-    no_held (job_at desks id) c.requires.0
+    no_held (held_job_at desks id) c.requires.0
     (job_was desks (set desks id.desk jobs) id jobs jobs here refl ∙ (sym c.release.ensures.was ∙ c.in-None.is)) c.requires.1
 
 pub returns : goal.returns

@@ -1,7 +1,7 @@
 use Rattle.std.proofs.Common.{◌≡◌, ◌∙◌, refl, sym, ap, subst}
 use Rattle.seat_log.specs.Seated.{SeatPart}
 use Rattle.server_state.specs.declared.job_id.JobId.{JobId}
-use Rattle.job_pool.specs.Holdings.{SeenJob, job_at}
+use Rattle.job_pool.specs.Holdings.{SeenJob, held_job_at}
 use Rattle.job_pool.specs.PooledJobs.{PooledJob, IsJobEnd}
 use Rattle.job_pool.specs.PoolSteps.{HasTicket, job_collected, over_steps}
 use Rattle.job_pool.specs.declared.pool_step.PoolStep.{PoolStep}
@@ -27,14 +27,14 @@ returns-clause-takes g c =
     let given : SeenJob = c.release-given.result in
     let drops = c.release-given.ensures in
     let number : given.job.ticket ≡ told.job.ticket =
-    sym (ticket_found (job_at was.table.desks.items c.in_ok-ticket.id) given c.in-Some.held drops.was (sym c.in-Some.is ∙ c.ticket_of.ensures)) ∙ (c.if-held-ticket.false ∙ sym told.ticketed) in
+    sym (ticket_found (held_job_at was.table.desks.items c.in_ok-ticket.id) given c.in-Some.held drops.was (sym c.in-Some.is ∙ c.ticket_of.ensures)) ∙ (c.if-held-ticket.false ∙ sym told.ticketed) in
     let mine : HasTicket c.collect.new.self.part given.job = ticket_stays c.into_note.result.part c.collect.new.self.part given.job c.read.ensures.begins c.into_note.ensures.1 in
     let same : given.job ≡ told.job = one_ticket c.collect.new.self.part given.job told.job mine told.started number in (
       (given, subst (λ (j : PooledJob). IsJobEnd c.in_ok-ticket.id j.job c.in_ok-ticket.end) (sym same) told.end, drops),
       (
         told.job,
         told.named,
-        (given, ap (λ (id : JobId). job_at was.table.desks.items id) told.named ∙ drops.was, number),
+        (given, ap (λ (id : JobId). held_job_at was.table.desks.items id) told.named ∙ drops.was, number),
         ap (λ (s : SeatPart PoolStep). over_steps job_collected s.part) (c.read.ensures.same ∙ told.is) ∙ one_step job_collected was.port.part (Collected told.job),
       ),
       refl,
