@@ -1,5 +1,5 @@
 -- Whole histories of puts and takes.
-use Rattle.std.proofs.Common.{◌≡◌, ◌≢◌, ◌==◌, ◌⊎◌, inl, inr, ◌+◌, ℕ, Bool, true, false, List, [], ◌∷◌, ◌++◌, if◌then◌else◌, refl, sym, ap, subst, ◌∙◌, append_assoc, arith}
+use Rattle.std.proofs.Common.{◌≡◌, ◌≢◌, ◌==◌, ◌⊎◌, inl, inr, ℕ, Bool, true, false, List, [], ◌∷◌, ◌++◌, if◌then◌else◌, refl, sym, ap, subst, ◌∙◌, append_assoc}
 use Rattle.job_pool.specs.FairTurns.{FairFlow, flow_left, queued_behind, TakesTurn, HasNoFlow, AreFairFlows, FairEvent, Queued, Served, FairStep, FairlyLeads, queued_into, served_from, flow_waiting}
 use Rattle.job_pool.proofs.FairSteps.{is_same, is_other, same_is, other_is, if_true, if_false, if_cases, not_nil, flows_put, flows_take}
 

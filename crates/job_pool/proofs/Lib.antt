@@ -4,3 +4,4 @@ pub mod PoolParts
 pub mod SeatParts
 pub mod Desks
 pub mod Limits
+pub mod Histories

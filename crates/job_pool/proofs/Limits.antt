@@ -1,10 +1,9 @@
 -- Changes of a table keep its limits, and what a start and a take do to the port.
-use Rattle.std.proofs.Common.{◌≡◌, ◌≢◌, ◌<◌, ◌≤◌, ◌+◌, ℕ, List, [], ◌∷◌, ◌++◌, Option, Some, None, option_map, length, refl, sym, ap, subst, ◌∙◌, ◌⊎◌, inl, inr, arith, length-append}
+use Rattle.std.proofs.Common.{◌≡◌, ◌≢◌, ◌<◌, ◌≤◌, ◌+◌, ℕ, List, [], ◌∷◌, ◌++◌, Option, Some, option_map, length, refl, sym, ap, subst, ◌∙◌, ◌⊎◌, inl, inr, arith, length-append}
 use Rattle.std.proofs.lemmas.Bool.{cases_eq}
 use Rattle.std.specs.BTreeMap.{BTreeMap}
-use Rattle.seat_log.specs.Seated.{SeatPart}
 use Rattle.server_state.specs.declared.job_id.JobId.{JobId}
-use Rattle.job_pool.specs.Holdings.{DropsJob, HasRoom, HoldsJob, IsSameTable, KeepsLimits, PoolLimits, SeenJob, held_job_at, limit_at, open_at, open_in}
+use Rattle.job_pool.specs.Holdings.{DropsJob, HasRoom, HoldsJob, IsSameTable, KeepsLimits, PoolLimits, SeenJob, held_job_at, limit_at, open_at}
 use Rattle.job_pool.specs.PooledJobs.{PooledJob}
 use Rattle.job_pool.specs.PoolSteps.{job_started, over_steps}
 use Rattle.job_pool.specs.declared.pool_step.PoolStep.{PoolStep}

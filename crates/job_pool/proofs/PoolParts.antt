@@ -1,9 +1,9 @@
 -- A history and a part that are longer by one step.
-use Rattle.std.proofs.Common.{◌≡◌, ◌<◌, ◌+◌, ℕ, zero, suc, List, [], ◌∷◌, ◌++◌, Option, Some, None, length, refl, sym, ap, subst, ◌∙◌, arith}
+use Rattle.std.proofs.Common.{◌≡◌, ℕ, zero, suc, List, [], ◌∷◌, ◌++◌, Option, Some, None, length, refl, sym, ap, subst, ◌∙◌}
 use Rattle.std.specs.Prelude.{slice_get}
 use mathlib.Core.List.{IsPrefix}
 use Rattle.seat_log.specs.declared.log_view.SeatEntry.{SeatEntry}
-use Rattle.job_pool.specs.FairTurns.{FairEvent, FairFlow, FairlyLeads, FairStep, TakesTurn, Queued, Served, queued_behind}
+use Rattle.job_pool.specs.FairTurns.{FairEvent, FairFlow, FairlyLeads, TakesTurn, Queued, Served, queued_behind}
 use Rattle.job_pool.specs.PooledJobs.{PooledJob}
 use Rattle.job_pool.specs.PoolSteps.{HasTicket, IsPoolHistory, job_collected, job_ended, job_or_none, job_started, noted_job, over_history, over_steps, turn_taken}
 use Rattle.job_pool.specs.declared.pool_step.PoolStep.{PoolStep}

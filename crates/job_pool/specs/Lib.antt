@@ -3,3 +3,4 @@ pub mod PooledJobs
 pub mod PoolSteps
 pub mod SeatSteps
 pub mod Holdings
+pub mod PoolRuns

@@ -28,8 +28,10 @@ pub use pool_threads::start_workers;
 // the jobs that are held, within limits
 mod job_table;
 mod open_job;
+mod pool_laws;
 mod server_pool;
 
 pub use job_table::PoolLimits;
 pub use open_job::OpenRun;
+pub use pool_laws::{desks_with_room_are_served, limits_hold, taken_jobs_were_started};
 pub use server_pool::JobPool;

@@ -1,5 +1,4 @@
-use Rattle.std.proofs.Common.{◌≡◌, ◌≢◌, ◌<◌, ◌-◌, ℕ, length, slice_index_or}
-use Rattle.job_pool.specs.FairTurns.{FairFlow}
+use Rattle.std.proofs.Common.{◌≢◌, ◌<◌, ◌-◌, ℕ, length, slice_index_or}
 use Rattle.job_pool.proofs.fair_queue.place_of.Given as goal
 
 abbrev pub invariant-loop-at : goal.invariant-loop-at

@@ -1,4 +1,4 @@
-use Rattle.std.proofs.Common.{◌≡◌, ◌∙◌, [], ◌∷◌, ◌++◌, ap}
+use Rattle.std.proofs.Common.{◌∙◌, [], ◌∷◌, ◌++◌, ap}
 use Rattle.job_pool.specs.PooledJobs.{PooledJob}
 use Rattle.job_pool.specs.PoolSteps.{job_ended, job_taken, over_steps}
 use Rattle.job_pool.proofs.PoolParts.{append_assoc}

@@ -1,6 +1,6 @@
-use Rattle.std.proofs.Common.{◌≡◌, ◌+◌, Some, Ok, Err, Result, OnErr, set, refl, sym, ap, subst, ◌∙◌, arith, rules}
+use Rattle.std.proofs.Common.{◌≡◌, ◌+◌, Some, Ok, Err, Result, OnErr, set, sym, ap, subst, ◌∙◌, rules}
 use Rattle.std.specs.Prelude.{slice_get, slice_index_or}
-use Rattle.job_pool.specs.Holdings.{HoldsJob, IsSameTable, SeenJob, open_in}
+use Rattle.job_pool.specs.Holdings.{HoldsJob, SeenJob}
 use Rattle.job_pool.proofs.Desks.{holds_job, index_get, named_by, named_same, same_table}
 use Rattle.job_pool.proofs.job_table.JobTable.hold.Goals as goal
 

@@ -1,6 +1,5 @@
-use Rattle.std.proofs.Common.{◌≡◌, ◌<◌, Some, length, set, refl, sym, ap, subst, ◌∙◌, rules}
-use Rattle.std.specs.Prelude.{slice_get, slice_index_or}
-use Rattle.job_pool.proofs.Desks.{IsLookedAt, index_get, looked_at}
+use Rattle.std.proofs.Common.{◌<◌, Some, length, sym, ap, ◌∙◌, rules}
+use Rattle.job_pool.proofs.Desks.{index_get, looked_at}
 use Rattle.job_pool.proofs.job_table.JobTable.look.Goals as goal
 
 pub invariant_of-self : goal.invariant_of-self

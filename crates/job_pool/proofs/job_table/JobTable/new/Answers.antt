@@ -1,4 +1,4 @@
-use Rattle.std.proofs.Common.{◌≡◌, ◌≤◌, ◌+◌, ◌∙◌, ◌++◌, ◌∷◌, [], ℕ, List, length, subst, sym, ap, arith, rules, length-append}
+use Rattle.std.proofs.Common.{◌≡◌, ◌≤◌, ◌+◌, ◌∙◌, ◌++◌, ◌∷◌, [], ℕ, List, length, subst, sym, ap, rules, length-append}
 use Rattle.std.specs.BTreeMap.{BTreeMap}
 use Rattle.job_pool.specs.Holdings.{SeenJob}
 use Rattle.job_pool.proofs.Desks.{AreFresh, fresh_more, fresh_table, no_held}

@@ -1,8 +1,6 @@
-use Rattle.std.proofs.Common.{◌≡◌, ◌≤◌, ◌+◌, ◌-◌, Some, None, set, refl, sym, ap, subst, ◌∙◌, arith, rules}
+use Rattle.std.proofs.Common.{◌≡◌, ◌-◌, Some, None, set, refl, sym, ap, subst, ◌∙◌, arith}
 use Rattle.std.specs.Prelude.{slice_get, slice_index_or}
-use Rattle.std.specs.BTreeMap as tree
-use Rattle.std.specs.Ordering.{nat_cmp}
-use Rattle.job_pool.specs.Holdings.{DropsJob, SeenJob, held_job_at, open_in}
+use Rattle.job_pool.specs.Holdings.{DropsJob, held_job_at, open_in}
 use Rattle.job_pool.proofs.Desks.{drops_job, index_get, job_below, job_was, named_by, no_held}
 use Rattle.job_pool.proofs.job_table.JobTable.release.Goals as goal
 

@@ -1,4 +1,3 @@
-use Rattle.std.proofs.Common.{◌≡◌, rules}
 use Rattle.job_pool.proofs.pool_ends.PoolPort.put.Goals.{then-is_ok, else-is_ok}
 use Rattle.job_pool.proofs.pool_ends.PoolPort.put.Goals as goal
 

@@ -1,4 +1,4 @@
-use Rattle.std.proofs.Common.{◌≡◌, ◌++◌, ap, ◌∙◌, option_to_list}
+use Rattle.std.proofs.Common.{◌++◌, ap, ◌∙◌, option_to_list}
 use Rattle.seat_log.specs.Seated.{SeatPart}
 use Rattle.job_pool.specs.PoolSteps.{job_ended, job_taken, over_steps}
 use Rattle.job_pool.specs.declared.pool_step.PoolStep.{PoolStep}

@@ -1,4 +1,4 @@
-use Rattle.std.proofs.Common.{◌≡◌, rules}
+use Rattle.std.proofs.Common.{rules}
 use Rattle.job_pool.proofs.PoolParts.{keeps_put}
 use Rattle.job_pool.proofs.pool_queue.PoolQueue.put.Goals as goal
 

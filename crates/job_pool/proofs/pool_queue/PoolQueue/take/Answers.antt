@@ -1,4 +1,4 @@
-use Rattle.std.proofs.Common.{◌≡◌, ◌∷◌, ◌++◌, [], ap, ◌∙◌, rules}
+use Rattle.std.proofs.Common.{◌∷◌, ◌++◌, [], ap, ◌∙◌}
 use Rattle.job_pool.specs.PooledJobs.{PooledJob}
 use Rattle.job_pool.specs.declared.pool_step.PoolStep.TheVariants.{Taken}
 use Rattle.job_pool.proofs.PoolParts.{keeps_taken}

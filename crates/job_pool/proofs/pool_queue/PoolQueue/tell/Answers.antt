@@ -1,4 +1,4 @@
-use Rattle.std.proofs.Common.{◌≡◌, ◌++◌, ◌∷◌, [], sym, ap, ◌∙◌}
+use Rattle.std.proofs.Common.{◌++◌, ◌∷◌, [], sym, ap, ◌∙◌}
 use Rattle.job_pool.specs.PooledJobs.{PooledJob}
 use Rattle.job_pool.proofs.PoolParts.{keeps_ended}
 use Rattle.job_pool.proofs.pool_queue.PoolQueue.tell.Goals as goal

@@ -1,4 +1,4 @@
-use Rattle.std.proofs.Common.{◌≡◌, ◌++◌, option_to_list, sym, ap, ◌∙◌}
+use Rattle.std.proofs.Common.{◌++◌, option_to_list, sym, ap, ◌∙◌}
 use Rattle.job_pool.specs.PoolSteps.{job_ended, over_steps}
 use Rattle.job_pool.specs.declared.pool_step.PoolStep.TheVariants.{Ended}
 use Rattle.job_pool.proofs.PoolParts.{append_nil, one_step}

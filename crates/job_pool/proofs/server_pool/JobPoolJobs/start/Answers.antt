@@ -1,7 +1,7 @@
-use Rattle.std.proofs.Common.{◌≡◌, ◌∙◌, ◌+◌, refl, sym, ap, subst, inr, rules}
+use Rattle.std.proofs.Common.{◌≡◌, ◌∙◌, ◌+◌, refl, ap, inr, rules}
 use Rattle.seat_log.specs.Seated.{SeatPart}
 use Rattle.job_pool.specs.PooledJobs.{PooledJob}
-use Rattle.job_pool.specs.PoolSteps.{HasTicket, job_put, over_steps}
+use Rattle.job_pool.specs.PoolSteps.{job_put, over_steps}
 use Rattle.job_pool.specs.SeatSteps.{with_step}
 use Rattle.job_pool.specs.declared.pool_step.PoolStep.{PoolStep}
 use Rattle.job_pool.specs.declared.pool_step.PoolStep.TheVariants.{Put, Started}
