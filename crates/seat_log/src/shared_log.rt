@@ -175,7 +175,7 @@ impl<E, J: LogName> SharedLog<E, J> {
         }
     }
 
-    // AddsToLog the entry that the call picks.
+    // Adds the entry that the call picks.
     fn add_as<P: Picks<E>, T>(
         &self,
         seat: &mut LogSeat<E, J>,
