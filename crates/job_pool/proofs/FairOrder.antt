@@ -61,7 +61,7 @@ module _ {X : Type 0} where
   append_nil [] = refl
   append_nil (x ∷ xs) = ap (λ (ys : List X). x ∷ ys) (append_nil xs)
 
-  -- what waited, and what was put, is what was taken, and what waits then
+  -- the items that waited and those that were put are those that were taken and those that wait then
   pub order_kept : (n : ℕ) (es : List (FairEvent X)) (q r : List (FairFlow X)) → AreFairFlows q → FairlyLeads q es r → flow_waiting n q ++ queued_into n es ≡ served_from n es ++ flow_waiting n r
   order_kept n [] q r flows leads = append_nil (flow_waiting n q) ∙ sym (ap (flow_waiting n) leads)
   order_kept n (Queued m x ∷ es) q r flows leads =

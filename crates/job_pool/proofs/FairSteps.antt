@@ -1,4 +1,4 @@
--- What a put and a take do to flows.
+-- The effect of a put and of a take on flows.
 use Rattle.std.proofs.Common.{◌≡◌, ◌≢◌, ◌==◌, ◌<◌, ℕ, zero, suc, Bool, true, false, List, [], ◌∷◌, ◌++◌, length, set, if◌then◌else◌, refl, sym, ap, subst, ◌∙◌, arith}
 use Rattle.std.proofs.lemmas.Bool.Decides.{nat_tests}
 use Rattle.std.specs.Prelude.{slice_index_or}
@@ -67,7 +67,7 @@ module _ {X : Type 0} where
       let differs : f.number ≢ n = λ same. apart (ap (λ (g : FairFlow X). g.number) (there f) ∙ (is ∙ sym same)) in
       put_there n x f fs differs ∙ ap (λ (l : List (FairFlow X)). f ∷ l) (put_set n x fs at old flows.2 (omega (arith, below)) there is)
 
-  -- where nothing of the flow waits
+  -- nothing of the flow waits
   pub put_end : (n : ℕ) (x : X) (q : List (FairFlow X)) → ((at : ℕ) (d : FairFlow X) → at < length q → (slice_index_or q at d).number ≢ n)
       → queued_behind n x q ≡ q ++ record { number = n; waiting = x ∷ [] } ∷ []
   put_end n x [] none = refl

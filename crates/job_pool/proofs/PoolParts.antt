@@ -71,7 +71,7 @@ ticket_noted part now entered marked job first second next is =
     subst (λ (l : List PoolStep). HasTicket l marked) (sym (is ∙ ap (λ (j : PooledJob). part ++ Started j ∷ []) (first ∙ sym second)))
     (ticket_given part marked (ap (λ (j : PooledJob). j.ticket) second ∙ next))
 
--- what is noted under a ticket is the job that has it
+-- the job that is noted under a ticket is the one that has it
 pub noted_is : (part now : List PoolStep) (entered job : PooledJob) → entered ≡ job → job.ticket ≡ length (over_steps job_started part) → now ≡ part ++ Started entered ∷ [] → noted_job now job.ticket job.id ≡ job
 noted_is part now entered job same next is =
     let had : HasTicket now job = ticket_noted part now entered job job same refl next is in

@@ -1,4 +1,4 @@
--- What a take adds to a worker's part.
+-- The steps that a take adds to a worker's part.
 use Rattle.std.proofs.Common.{◌≡◌, ◌++◌, ℕ, Option, Some, None, MatchOption, option_to_list, refl, sym, ap, ◌∙◌}
 use Rattle.seat_log.specs.Seated.{SeatPart}
 use Rattle.job_pool.specs.PooledJobs.{PooledJob}

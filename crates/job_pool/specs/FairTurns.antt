@@ -50,7 +50,7 @@ abbrev pub FairlyLeads : {X : Type 0} → List (FairFlow X) → List (FairEvent 
 FairlyLeads old [] new = new ≡ old
 FairlyLeads {X} old (e ∷ es) new = (next : List (FairFlow X)) × FairStep old e next × FairlyLeads next es new
 
--- what was put into a flow, in order, and what was taken out of it
+-- the items that were put into a flow, in order, and those that were taken out of it
 abbrev pub queued_into : {X : Type 0} → ℕ → List (FairEvent X) → List X
 queued_into n [] = []
 queued_into n (Queued m x ∷ es) = if m == n then x ∷ queued_into n es else queued_into n es
@@ -61,7 +61,7 @@ served_from n [] = []
 served_from n (Queued m x ∷ es) = served_from n es
 served_from n (Served m x ∷ es) = if m == n then x ∷ served_from n es else served_from n es
 
--- what waits in a flow
+-- the items that wait in a flow
 abbrev pub flow_waiting : {X : Type 0} → ℕ → List (FairFlow X) → List X
 flow_waiting n [] = []
 flow_waiting n (f ∷ fs) = if f.number == n then f.waiting else flow_waiting n fs

@@ -27,7 +27,7 @@ numbered_job (Some jobs) n = tree.get nat_cmp jobs n
 abbrev pub held_job_at : List (BTreeMap ℕ SeenJob) → JobId → Option SeenJob
 held_job_at desks id = numbered_job (slice_get desks id.desk) id.number
 
--- how many jobs are open at a desk, and in all
+-- the number of jobs that are open at a desk, and in all
 abbrev pub count_of_desk : Option (BTreeMap ℕ SeenJob) → ℕ
 count_of_desk None = 0
 count_of_desk (Some jobs) = btree_map_len jobs
@@ -103,7 +103,7 @@ pub record LooksAt (old : List (BTreeMap ℕ SeenJob)) (id : JobId) (held : Seen
   pub desk : open_at new id.desk ≡ open_at old id.desk
   pub all : open_in new ≡ open_in old
 
--- what is told of what is held under a name; of no job nothing
+-- the progress of a job that is held under a name; nothing of no job
 unfoldable pub looks_under : List (BTreeMap ℕ SeenJob) → JobId → Option SeenJob → Progress
     → List (BTreeMap ℕ SeenJob) → Type 0
 looks_under old id (Some held) told new = LooksAt old id held told new
@@ -148,7 +148,7 @@ pub record IsFreshJob (ticket : ℕ) (id : JobId) (job : AdmittedJob) (held : Se
   pub seen : held.sight.seen ≡ Open id.number job.credit ∷ []
   pub looks : held.sight.looks ≡ 0
 
--- Where there is room the job is held. A start is refused by 81 only where there is no room, no worker,
+-- If there is room the job is held. A start is refused by 81 only where there is no room, no worker,
 -- or a job of this name already, and by 99 for want of memory. Then nothing changes.
 abbrev pub StartsJob : PoolLimits → Bool → ℕ → List (BTreeMap ℕ SeenJob) → JobId → AdmittedJob
     → Result (Unit {0}) ℕ → List (BTreeMap ℕ SeenJob) → Type 0

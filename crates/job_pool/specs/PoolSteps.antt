@@ -52,12 +52,12 @@ turn_taken (Taken flow job) = Served flow job ∷ []
 turn_taken (Ended job) = []
 turn_taken (Collected job) = []
 
--- what the steps of a list give, in order
+-- the values that the steps of a list give, in order
 abbrev pub over_steps : {X : Type 0} → (PoolStep → List X) → List PoolStep → List X
 over_steps f [] = []
 over_steps f (e ∷ es) = f e ++ over_steps f es
 
--- what the steps of a history give, whoever made them
+-- the values that the steps of a history give, whoever made them
 abbrev pub over_history : {X : Type 0} → (PoolStep → List X) → List (SeatEntry PoolStep) → List X
 over_history f [] = []
 over_history f (e ∷ es) = f e.entry ++ over_history f es

@@ -1,4 +1,4 @@
--- What a step adds to a seat of a pool's history.
+-- The steps of a seat of a pool's history.
 use Rattle.std.specs.Prelude.{◌≡◌, ◌⊎◌, ℕ, List, [], ◌∷◌, ◌++◌, Option, Some, None, Result, Ok, Err}
 use Rattle.credit_book.specs.declared.book.Report.{Report}
 use Rattle.job_core.specs.Admitted.{AdmittedJob}
@@ -33,14 +33,14 @@ pub record EndsEachTaken (old new : SeatPart PoolStep) : Type 0 where
 abbrev pub no_steps : ℕ → SeatPart PoolStep
 no_steps n = record { number = n; part = [] }
 
--- What a start puts: this very job under this ticket where it is answered by Ok, and else nothing.
+-- A start that is answered by Ok puts this very job under this ticket, and any other nothing.
 abbrev pub PutsJob : ℕ → SeatPart PoolStep → JobId → AdmittedJob → Result (Unit {0}) ℕ
     → SeatPart PoolStep → Type 0
 PutsJob ticket old id job (Ok _) new = over_steps job_put new.part
     ≡ over_steps job_put old.part ++ record { ticket = ticket; id = id; job = job } ∷ []
 PutsJob ticket old id job (Err code) new = over_steps job_put new.part ≡ over_steps job_put old.part
 
--- What a take collects: the end of a job of this name where it gives one; where it gives none, none,
+-- A take collects the end of a job of this name if it gives one. If it gives none, it collects none,
 -- or that of a start that is not held.
 abbrev pub CollectsJob : (PooledJob → Type 0) → SeatPart PoolStep
     → Option (JobId × Result Report ℕ) → SeatPart PoolStep → Type 0

@@ -1,4 +1,4 @@
-//! What the turns of flows come to over whole histories.
+//! Laws of the turns of flows over whole histories.
 
 ghost use Rattle.std.specs.Prelude.{◌≡◌, ◌≢◌, ℕ, List, [], ◌∷◌, ◌++◌};
 ghost use Rattle.job_pool.specs.FairTurns.{FairFlow, FairEvent, Served, FairlyLeads, queued_into, served_from, flow_waiting};
@@ -13,7 +13,7 @@ pub fn each_flow_has_its_turn<T>()
         → other ≢ flow → flow_waiting other waits ≢ [] → served_from other between ≢ [] }
 {}
 
-/// What was put into a flow was taken out of it, in order, but for what waits there, which is the
+/// All that was put into a flow was taken out of it, in order, but for what waits there, which is the
 /// rest of it.
 pub fn flows_keep_their_order<T>()
     ensures { (history : List (FairEvent T)) (waits : List (FairFlow T)) (flow : ℕ)

@@ -67,7 +67,7 @@ pub(crate) struct JobTable<J: LogName> {
     ghost named: { AreUnderNames desks.items } by { Prim.hlevel props },
 }
 
-// Whether a limit allows one job more than these.
+// True if a limit allows one job more than these.
 fn is_below(limit: u32, count: u64) -> bool
     ensures room { result ≡ true → IsBelow limit count }
     ensures full { result ≡ false → IsBelow limit count → ⊥ }
@@ -105,7 +105,7 @@ impl<J: LogName> JobTable<J> {
         }
     }
 
-    // How many jobs of a desk are held; none where there is no such desk.
+    // The number of jobs of a desk that are held. `None`: there is no such desk.
     fn count_at(&self, desk: usize) -> Option<u64>
         ensures { MatchOption result (length self.now.desks.items ≤ desk)
             (λ count. (desk < length self.now.desks.items) × (count ≡ open_at self.now.desks.items desk)) }
@@ -116,7 +116,7 @@ impl<J: LogName> JobTable<J> {
         }
     }
 
-    /// Whether these limits allow one job more of this desk.
+    /// True if these limits allow one job more of this desk.
     pub fn has_room(&self, limits: &PoolLimits, desk: u16) -> bool
         ensures room { result ≡ true → HasRoom limits.now self.now.desks.items desk }
         ensures full { result ≡ false → HasRoom limits.now self.now.desks.items desk → ⊥ }
@@ -147,7 +147,7 @@ impl<J: LogName> JobTable<J> {
         Ok(())
     }
 
-    /// What the board of the job of this name tells now.
+    /// The progress of the job of this name, by its board now.
     pub fn look(&mut self, id: JobId) -> Option<Progress>
         ensures { MatchOption result ((held_job_at self.old.desks.items id ≡ None) × (self.new.desks.items ≡ self.old.desks.items))
             (λ told. (held : SeenJob) × (held_job_at self.old.desks.items id ≡ Some held)

@@ -82,7 +82,7 @@ impl<J: LogName> OpenRun<J> {
         self.ticket
     }
 
-    /// What its board tells now.
+    /// The job's progress, by its board now.
     pub(crate) fn look(&mut self) -> Progress
         ensures job { self.new.job ≡ self.old.job }
         ensures look { LooksOnce self.old.sight result self.new.sight }
@@ -139,7 +139,7 @@ pub(crate) fn release<J: LogName>(
     jobs.remove(&number)
 }
 
-/// What the board of the job of this number tells now.
+/// The progress of the job of this number, by its board now.
 pub(crate) fn look_at<J: LogName>(
     jobs: &mut BTreeMap<u64, OpenRun<J>>,
     number: u64,

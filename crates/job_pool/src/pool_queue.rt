@@ -17,7 +17,7 @@ use std::collections::LinkedList;
 use std::marker::Model;
 use std::sync::Wait;
 
-/// What lies under the lock of a pool.
+/// The state under the lock of a pool.
 #[derive(Drop)]
 pub(crate) struct PoolQueue<J: LogName> {
     turns: FairQueue<PooledRun<J>>,
@@ -176,17 +176,17 @@ impl<J: LogName> PoolQueue<J> {
         Some((ticket, id, end))
     }
 
-    /// Whether a worker has to wait.
+    /// True if a worker has to wait.
     pub fn is_idle(&self) -> bool {
         self.turns.is_empty() && !self.is_closed
     }
 
-    /// Whether the end of a job waits to be collected.
+    /// True if the end of a job waits to be collected.
     pub fn has_ends(&self) -> bool {
         !self.over.is_empty()
     }
 
-    /// Whether the pool is closed.
+    /// True if the pool is closed.
     pub fn is_closed(&self) -> bool {
         self.is_closed
     }

@@ -124,7 +124,7 @@ impl<J: LogName> Model for FinishedRun<J> {
     ghost invariant = { λ f. f.room ≡ f.mark ∷ [] };
 }
 
-// What the job comes to, on so many threads, or on the calling one alone where it is small.
+// The end of a job that runs on so many threads, or on the calling one alone if it is small.
 fn end_of<R: Threads + Wait + Sync>(
     rt: &R,
     alloc: Global,

@@ -72,7 +72,7 @@ impl<'a, R, W, J: LogName> JobPool<'a, R, W, J> {
     }
 }
 
-// Whether a job of this name may be started now.
+// True if a job of this name may be started now.
 fn may_start<J: LogName>(
     has_workers: bool,
     limits: &PoolLimits,

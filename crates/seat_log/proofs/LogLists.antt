@@ -63,7 +63,7 @@ module _ {E : Type 0} where
       )
       by_test false is = (begins.0, begins.1 ∙ sym (part_other n entries e (other_is is)))
 
--- what stands in a list that is longer by one
+-- a list that is longer by one
 pub at_end : {X : Type 0} (l : List X) (a b : X) (j : ℕ) → get_elem? (l ++ a ∷ []) j ≡ some b → (get_elem? l j ≡ some b) ⊎ ((j ≡ length l) × (a ≡ b))
 at_end [] a b zero e = inr (refl, some-injective a b e)
 at_end [] a b (suc j) e = absurd (some-ne-none b (sym e))

@@ -91,7 +91,7 @@ only_note {E} v = record (blank_view {E = E}) { is_note = v.is_note; noted = v.n
 
 -- ---- the rule
 
--- what the view at a place says is so
+-- the view at a place says what is so
 pub record FitsLog {E : Type 0} (keeper_at opener_at : ℕ) (place_of : ℕ → ℕ) (opened : ℕ)
     (entries : List (SeatEntry E)) (place : ℕ) (v : LogView E) : Type 0 where
   pub keeping : v.is_keeper ≡ true → (place ≡ keeper_at) × (v.entries ≡ entries)
@@ -126,6 +126,6 @@ AddsToLog {E} picks s v found w =
       v.1,
     ))
 
--- what was noted of a seat is the beginning of what it knows
+-- a note of a seat is the beginning of the seat's part
 abbrev pub ReadsPart : {E S : Type 0} → Step S → Me S (LogView E) → ℕ → Me S (LogView E) → Type 0
 ReadsPart s v found w = (w ≡ v) × (v.0.noted ≡ v.0.number → IsPrefix v.0.known v.0.part)

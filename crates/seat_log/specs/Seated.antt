@@ -1,4 +1,4 @@
--- What contracts see of a seat.
+-- A seat, as contracts see it.
 use Rattle.std.specs.Prelude.{ℕ, List}
 
 -- its number, and what it added, in order

@@ -1,4 +1,4 @@
-//! What each seat knows of a log, and the kinds of step.
+//! The knowledge of each seat of a log, and the kinds of step.
 
 use atomic_table::{Join, Play, Split, TableRule};
 use std::collections::LinkedList;
@@ -10,7 +10,7 @@ pub struct SeatEntry<E> {
     pub entry: E,
 }
 
-/// What a seat of the table knows. No value of it is made.
+/// The knowledge of a seat of the table. No value of it is made.
 ///
 /// A seat of the log knows its own entries, the keeper the whole log, and the opener how many seats
 /// were opened. A note knows the first entries of one seat. For the time of a step a seat is the
@@ -129,7 +129,7 @@ impl<E> Split<LogView<E>> for LeavesNote {
     ghost right = { only_note };
 }
 
-/// What an entry is made of.
+/// A value that makes an entry.
 pub trait Logged<E> {
     ghost entry: { Self → E };
 }

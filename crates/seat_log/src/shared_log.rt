@@ -227,7 +227,7 @@ impl<E, J: LogName> SharedLog<E, J> {
         }
     }
 
-    /// What a note of this seat has is the beginning of what the seat added.
+    /// A note of this seat has the first entries that the seat added.
     pub fn read(&self, seat: &mut LogSeat<E, J>, note: LogNote<E, J>)
         ensures same { seat.new ≡ seat.old }
         ensures begins { note.number ≡ seat.old.number → IsPrefix note.part seat.old.part }
