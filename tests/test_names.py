@@ -28,20 +28,31 @@ GOING = {"desk_journal", "desk_recorder", "durable_replies", "job_pools", "job_s
 
 SAME = "one meaning, of the state or the fault that each crate has"
 HOSTS = "two meanings, and hosts name both"
+GOES = "one meaning, and the one beside that of endpoints goes once the server stands on these"
 
 # Names that may stand in several crates: exactly these, and why.
 EXCEPTIONS = {
+    "CameBy": ("endpoints job_server", GOES),
     "code_of": ("flow_graph insn_codec", SAME),
     "code_of_fault": ("flow_graph insn_codec", SAME),
     "cost_at": ("machine_model verifier", SAME),
     "end_bits": ("insn_codec machine_model", SAME),
+    "Endpoint": ("bpfjobs_cli endpoints", "where a command says that it listens, and where a server does"),
+    "Entrance": ("endpoints job_server", GOES),
     "fault_at": ("flow_graph insn_codec", SAME),
     "IsAlive": ("credit_book machine_model", SAME),
     "IsComplete": ("credit_book machine_model", SAME),
+    "ListenFault": ("endpoints job_server", GOES),
+    "Listener": ("endpoints job_server", GOES),
+    "Place": ("endpoints reference", "where a server listens, and where bytes lie"),
     "program_of": ("reference verifier", SAME),
     "slot_of_fault": ("flow_graph insn_codec", SAME),
+    "Shares": ("endpoints job_server", GOES),
     "Source": ("insn_codec streams", HOSTS),
     "spent_in": ("credit_book task_trees", SAME),
+    "StopFlag": ("endpoints server_log", GOES),
+    "TimedReader": ("endpoints job_server", GOES),
+    "TimedWriter": ("endpoints job_server", GOES),
     "state_of": ("interpreter reference verifier", SAME),
 }
 

@@ -5,6 +5,11 @@ mod HomeLemmas
 mod AloneLemmas
 mod OneDesk
 mod KeyedLemmas
+mod Traces
+mod AlikeDesks
+mod AlikeReplies
+mod AdmissionLemmas
+mod AlikeHistories
 mod ListEnds
 mod StaysOver
 mod Moments

@@ -12,10 +12,10 @@ use Rattle.server_state.specs.Answering.{AnswersAt, BeginsWaiting, ChangesAt, En
 use Rattle.server_state.specs.Histories.{ServerEvent, was_asked, has_ended, Happens, none_yet, one_asked, one_ended, one_begun, none_ended}
 use Rattle.server_state.specs.Alone.{one_desk}
 
--- the frame is that of the counts of the server, or of a refusal
-pub data IsAside : List ℕ → Type 0 where
-  of_counts : (frame : List ℕ) → TellsCounts frame → IsAside frame
-  of_refusal : (code : ℕ) → IsAside (refusal_frame code)
+-- the frame is that of the counts of the server, or of the refusal of a query that goes nowhere
+pub data IsAside : Destination → List ℕ → Type 0 where
+  of_counts : (frame : List ℕ) → TellsCounts frame → IsAside server_itself frame
+  of_refusal : (code : ℕ) → IsAside (refused_by code) (refusal_frame code)
 
 pub first_of_one : (d e : DeskState) (place : ℕ) → slice_get (d ∷ []) place ≡ Some e → (place ≡ 0) × (e ≡ d)
 first_of_one d e zero at = (refl, cc)
@@ -24,7 +24,7 @@ first_of_one d e (suc place) at = cc
 module _ {R : Type 0} (m : JobsSteps R) (keep : KeepLimits) (begun : DeskState) (P : List ServerEvent → DeskState → Type 0)
     (asked : (events : List ServerEvent) (d : DeskState) (connection : ℕ) (access : Access) (query : Query) (frame : List ℕ) (started : Result (Unit {0}) ℕ) (r : R) (e : DeskState) (s : R) → P events d → goes [] access query ≡ desk_at 0
     → DeskReplies (starting_to started m) 0 keep d r (desk_query [] access query) frame e s → P (events ++ was_asked connection access query frame started ∷ []) e)
-    (aside : (events : List ServerEvent) (d : DeskState) (connection : ℕ) (access : Access) (query : Query) (frame : List ℕ) (started : Result (Unit {0}) ℕ) → P events d → (goes [] access query ≡ desk_at 0 → ⊥) → IsAside frame
+    (aside : (events : List ServerEvent) (d : DeskState) (connection : ℕ) (access : Access) (query : Query) (frame : List ℕ) (started : Result (Unit {0}) ℕ) → P events d → (goes [] access query ≡ desk_at 0 → ⊥) → IsAside (goes [] access query) frame
     → P (events ++ was_asked connection access query frame started ∷ []) d)
     (ended : (events : List ServerEvent) (d : DeskState) (id : JobId) (outcome : Result Report ℕ) (r : R) (e : DeskState) (s : R) → P events d → m.takes r (Some (id, outcome)) s → id.desk ≡ 0 → NotesEnd id.number outcome d e
     → P (events ++ has_ended id outcome ∷ []) e)
@@ -107,11 +107,11 @@ module _ {R : Type 0} (m : JobsSteps R) (keep : KeepLimits) (begun : DeskState) 
               (subst (λ (i : ℕ). DeskReplies (starting_to started m) i keep was.desk s.jobs (desk_query [] access query) frame n.1.0 t.jobs) n.0 n.1.1);
         }
     after_answer connection access query frame started server_itself is own same kept a =
-        unchanged connection access query frame started a.1 (aside events was.desk connection access query frame started was.holds (λ here. let clash = sym is ∙ here in cc) (of_counts frame a.0))
+        unchanged connection access query frame started a.1 (aside events was.desk connection access query frame started was.holds (λ here. let clash = sym is ∙ here in cc) (subst (λ (to : Destination). IsAside to frame) (sym is) (of_counts frame a.0)))
     after_answer connection access query frame started (refused_by code) is own same kept a =
         unchanged connection access query frame started a.1
         (subst (λ f. P (events ++ was_asked connection access query f started ∷ []) was.desk) (sym a.0)
-        (aside events was.desk connection access query (refusal_frame code) started was.holds (λ here. let clash = sym is ∙ here in cc) (of_refusal code)))
+        (aside events was.desk connection access query (refusal_frame code) started was.holds (λ here. let clash = sym is ∙ here in cc) (subst (λ (to : Destination). IsAside to (refusal_frame code)) (sym is) (of_refusal code))))
 
   pub along : (waiting : List (JobId × AdmittedJob)) (r : R) → P [] begun → (events : List ServerEvent) (s : ServerState R) → Happens m (one_desk keep begun waiting r) events s
       → (d : DeskState) × (s.desks ≡ d ∷ []) × P events d

@@ -7,4 +7,5 @@ pub mod Histories
 pub mod Alone
 pub mod Changing
 pub mod Keyed
+pub mod AlikeEvents
 pub mod Results

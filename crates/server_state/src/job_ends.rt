@@ -6,10 +6,10 @@ ghost use Rattle.credit_book.specs.declared.book.Report.{Report};
 ghost use Rattle.server_state.specs.declared.job_id.JobId.{JobId};
 ghost use Rattle.server_state.specs.Results.{RunsJobs};
 
-use crate::jobs::Jobs;
+use crate::jobs::JobRunner;
 
 /// A runner that holds each job under its name until it returns the job's end.
-pub trait JobEnds: Jobs {
+pub trait JobEnds: JobRunner {
     // The job that it holds under a name.
     ghost at: { Self → JobId → Option AdmittedJob };
 

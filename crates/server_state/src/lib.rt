@@ -10,9 +10,9 @@ mod laws;
 mod result_laws;
 
 pub use access::Access;
-pub use change::{Change, Changes};
+pub use change::{ChangeSink, DeskChange};
 pub use job_ends::JobEnds;
 pub use job_id::JobId;
-pub use jobs::{Jobs, RefusedStart};
-pub use laws::{each_tenant_is_alone, one_key_one_job};
+pub use jobs::{JobRunner, RefusedStart};
+pub use laws::{each_tenant_is_alone, one_key_one_job, others_are_not_told};
 pub use result_laws::{numbers_rise, results_come_from_submits, results_stay};

@@ -10,14 +10,14 @@ ghost use Rattle.server_state.specs.Results.{AreKnownAtFirst, AsksForResult, Com
 ghost use Rattle.server_state.specs.States.{DeskState, ServerState, id_at, steps_of};
 
 use crate::job_ends::JobEnds;
-use crate::jobs::Jobs;
+use crate::jobs::JobRunner;
 
 /// At each desk of any server, a submit is sent a greater number than each one before it, so no two
 /// are sent the same. A submit by a key that was there before is sent the number of that key's job
 /// again, and is none of these.
-pub fn numbers_rise<N: Jobs>()
+pub fn numbers_rise<N: JobRunner>()
     ensures { (first s : ServerState N) (events : List ServerEvent) (place : ℕ) (begun desk : DeskState)
-        → Happens (steps_of N.Jobs) first events s
+        → Happens (steps_of N.JobRunner) first events s
         → slice_get first.desks place ≡ Some begun → begun.keys ≡ latest begun.keys
         → slice_get s.desks place ≡ Some desk
         → (before between after : List ServerEvent) (e f : ServerEvent) (m n : ℕ)
@@ -35,7 +35,7 @@ pub fn numbers_rise<N: Jobs>()
 /// wait for their start.
 pub fn results_come_from_submits<N: JobEnds>()
     ensures told { (first s : ServerState N) (events : List ServerEvent) (place : ℕ) (begun desk : DeskState)
-        → Happens (steps_of N.Jobs) first events s
+        → Happens (steps_of N.JobRunner) first events s
         → slice_get first.desks place ≡ Some begun → begun.keys ≡ latest begun.keys
         → slice_get s.desks place ≡ Some desk → (known : List KnownJob)
         → AreKnownAtFirst (λ r n. N.at r (id_at place n)) begun (waiting_of place first.waiting)
@@ -44,7 +44,7 @@ pub fn results_come_from_submits<N: JobEnds>()
         → part_of first.names place events ≡ before ++ e ∷ after → AsksForResult number e
         → IsToldKnown (λ n. N.ends (id_at place n)) N.refuses first.keep begun.keys known before number e }
     ensures submitted { (first s : ServerState N) (events : List ServerEvent) (place : ℕ) (begun desk : DeskState)
-        → Happens (steps_of N.Jobs) first events s
+        → Happens (steps_of N.JobRunner) first events s
         → slice_get first.desks place ≡ Some begun → begun.keys ≡ latest begun.keys
         → slice_get s.desks place ≡ Some desk → (known : List KnownJob)
         → AreKnownAtFirst (λ r n. N.at r (id_at place n)) begun (waiting_of place first.waiting)
@@ -56,7 +56,7 @@ pub fn results_come_from_submits<N: JobEnds>()
         ⊎ WasReported known number e }
     ensures refused { (first s : ServerState N) (events : List ServerEvent) (place : ℕ)
         (begun desk : DeskState)
-        → Happens (steps_of N.Jobs) first events s
+        → Happens (steps_of N.JobRunner) first events s
         → slice_get first.desks place ≡ Some begun → begun.keys ≡ latest begun.keys
         → slice_get s.desks place ≡ Some desk → (known : List KnownJob)
         → AreKnownAtFirst (λ r n. N.at r (id_at place n)) begun (waiting_of place first.waiting)
@@ -74,9 +74,9 @@ pub fn results_come_from_submits<N: JobEnds>()
 
 /// At each desk of any server, what is sent of a job's result stays the same once the job is over,
 /// until it is forgotten.
-pub fn results_stay<N: Jobs>()
+pub fn results_stay<N: JobRunner>()
     ensures { (first s : ServerState N) (events : List ServerEvent) (place : ℕ) (begun desk : DeskState)
-        → Happens (steps_of N.Jobs) first events s
+        → Happens (steps_of N.JobRunner) first events s
         → slice_get first.desks place ≡ Some begun → slice_get s.desks place ≡ Some desk
         → (before between after : List ServerEvent) (e f : ServerEvent) (number : ℕ)
         → part_of first.names place events ≡ before ++ e ∷ (between ++ f ∷ after)
