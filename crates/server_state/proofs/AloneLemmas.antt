@@ -253,4 +253,5 @@ module _ {R : Type 0} (m : JobsSteps R) (place : ℕ) (first : ServerState R) (b
         left = p.left;
         happens = subst (λ (d : DeskState). Happens (seen_by_desk m place) (one_desk first.keep begun (waiting_of place first.waiting) first.jobs) (part_of first.names place events)
             (one_desk first.keep d (waiting_of place s.waiting) p.left)) (some_same (slice_get s.desks place) p.desk desk p.at at) p.happens;
+        others = p.others;
       }

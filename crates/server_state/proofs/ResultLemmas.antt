@@ -7,7 +7,7 @@ use Rattle.accounts.specs.declared.keep_limits.KeepLimits.{KeepLimits}
 use Rattle.accounts.specs.declared.jobs.JobEntry.{JobEntry}
 use Rattle.accounts.specs.declared.jobs.JobStanding.{JobStanding}
 use Rattle.accounts.specs.declared.jobs.JobStanding.TheVariants.{Open, Reported, Failed}
-use Rattle.accounts.specs.Jobs.{report_of}
+use Rattle.accounts.specs.Jobs.{job_at, report_of}
 use Rattle.accounts.specs.Ledgers.{Ledger, report_at, report_in}
 use Rattle.job_core.specs.Admitted.{AdmittedJob}
 use Rattle.sessions.specs.JobKeys.{latest}
@@ -18,16 +18,16 @@ use Rattle.server_state.specs.declared.job_id.JobId.{JobId}
 use Rattle.server_state.specs.Alone.{Others, no_step, one_start, one_look, one_end, no_end, at_home, is_of, one_desk, part_of, put_if, seen_by_desk, waiting_of}
 use Rattle.server_state.specs.Histories.{ServerEvent, was_asked, has_ended, Happens}
 use Rattle.server_state.specs.Keyed.{frame_of_event, none_yet as none_keyed}
-use Rattle.server_state.specs.Results.{AreKnown, AreKnownAtFirst, AsksForResult, ComesFromSubmit, IsHeld, IsKnownAs, IsResultFrame, IsResultKnown, IsSubmit, IsSubmittedBefore, IsToldKnown, Itself, KnownJob, Over, RunsJobs, WasReported, failed, forgotten, known_at, no_more, none_yet, not_over, one_again, one_more, outcome_told, over_standing, reported, unknown, was_over}
+use Rattle.server_state.specs.Results.{AreKnown, AreKnownAtFirst, AsksForResult, ComesFromSubmit, HoldsOpenJobs, IsHeld, IsKnownAs, IsResultFrame, IsResultKnown, IsSubmit, IsSubmittedBefore, IsToldKnown, Itself, KnownJob, Over, RunsJobs, WasReported, failed, forgotten, known_at, no_more, none_yet, not_over, one_again, one_more, outcome_told, over_standing, reported, unknown, was_over}
 use Rattle.server_state.specs.States.{DeskState, JobsSteps, ServerState, id_at}
 use Rattle.server_state.proofs.AloneLemmas.{each_alone}
 use Rattle.server_state.proofs.HistoryStands.{AreAtHome, RunsNumbers, Stood, home_before, home_last, known_is, stood_aside, stood_asked, stood_begun, stood_ended, stood_none}
 use Rattle.server_state.proofs.ListEnds.{get_past, get_within, joined_again, within_get}
-use Rattle.server_state.proofs.Moments.{moment}
+use Rattle.server_state.proofs.Moments.{desk_behind, moment}
 use Rattle.server_state.proofs.ReplyFrames.{third, third_of_refused, third_of_result}
-use Rattle.server_state.proofs.StandsFor.{AllStand, StandsFor, get_pushed}
+use Rattle.server_state.proofs.StandsFor.{AllStand, StandsFor, get_pushed, over_open}
 use Rattle.server_state.proofs.StayLemmas.{sent_at}
-use Rattle.server_state.proofs.StaysOver.{job_is}
+use Rattle.server_state.proofs.StaysOver.{job_is, job_there}
 
 -- ---- the result by the desk
 
@@ -76,6 +76,17 @@ module _ (ends : ℕ → AdmittedJob → Result Report ℕ → Type 0) (refuses 
 
 -- ---- at a server of one desk
 
+-- of a fresh desk no job is known
+pub known_fresh : {R : Type 0} (at : R → ℕ → Option AdmittedJob) (d : DeskState) (w : List (JobId × AdmittedJob)) (r : R) → d.ledger.jobs ≡ [] → w ≡ [] → AreKnownAtFirst at d w r []
+known_fresh at d w r none no_waiting = record {
+  count = ap length (sym none);
+  each = λ i entry job there known. absurd (nothing_at i job known);
+  waits = λ i job there. absurd (nothing_at i job (ap (λ l. slice_get l i) (sym no_waiting) ∙ there));
+}
+  where
+    nothing_at : {X : Type 0} (i : ℕ) (x : X) → slice_get {X = X} [] i ≡ Some x → ⊥
+    nothing_at i x is = cc
+
 module _ {R : Type 0} (m : JobsSteps R) (at : R → ℕ → Option AdmittedJob) (ends : ℕ → AdmittedJob → Result Report ℕ → Type 0) (refuses : ℕ → Type 0) (runs : RunsNumbers m at ends refuses)
     (keep : KeepLimits) (begun : DeskState) (waiting : List (JobId × AdmittedJob)) (q : R) (last : begun.keys ≡ latest begun.keys) (first : List KnownJob) (are : AreKnownAtFirst at begun waiting q first) where
   stands_first : (held : ℕ → AdmittedJob → Type 0) (number count : ℕ) (entry : JobEntry) (job : KnownJob) → IsKnownAs held number entry job → StandsFor ends refuses keep (held number) count number job entry.credit entry.standing
@@ -114,6 +125,46 @@ module _ {R : Type 0} (m : JobsSteps R) (at : R → ℕ → Option AdmittedJob) 
         sent = (sent_at m keep e t.1.old t.1.runner t.1.new t.1.left number asks t.1.comes).0;
         is_result = result_told ends refuses keep stood.known t.1.old.ledger (IsHeld at t.1.waiting t.1.runner) number stood.stand;
       }
+
+  -- the desk behind a history
+  pub stood_behind : (events : List ServerEvent) (s : ServerState R) → Happens m (one_desk keep begun waiting q) events s → AreAtHome events
+      → (d : DeskState) × (s.desks ≡ d ∷ []) × Stood m at ends refuses runs keep begun.keys first events d s.waiting s.jobs
+  stood_behind events s happens home =
+      let t = desk_behind m keep Stands
+      (λ events d w connection access query frame started r x y was to replies all. stood_asked m at ends refuses runs keep begun.keys first events d w connection access query frame started r x y (was (home_before events _ all)) to replies)
+      (λ events d w r connection access query frame started to was is aside all. stood_aside m at ends refuses runs keep begun.keys first events d w r connection access query frame started to (was (home_before events _ all)) is aside)
+      (λ events d w id outcome r x y was takes here noted all. stood_ended m at ends refuses runs keep begun.keys first events d w id outcome r x y (was (home_before events _ all)) takes here noted)
+      (λ events d w id outcome r y was takes apart all. absurd (apart (home_last events (has_ended id outcome) all)))
+      (λ events d job others started r y was starts all. stood_begun m at ends refuses runs keep begun.keys first events d job others started r y (was all) starts)
+      (λ events d w r y was none all. stood_none m at ends refuses runs keep begun.keys first events d w r y (was all) none)
+      begun waiting q at_first events s happens in
+      (t.0, t.1, t.2 home)
+
+-- ---- open jobs are held
+
+same_known : (a b : KnownJob) → Some a ≡ Some b → a ≡ b
+same_known a b same = cc
+
+open_held : {R : Type 0} (at : R → ℕ → Option AdmittedJob) (ends : ℕ → AdmittedJob → Result Report ℕ → Type 0) (refuses : ℕ → Type 0) (keep : KeepLimits) (d : DeskState) (w : List (JobId × AdmittedJob)) (r : R) (known : List KnownJob)
+    → AllStand ends refuses keep known d.ledger.jobs (IsHeld at w r) → HoldsOpenJobs at d w r known
+open_held at ends refuses keep d w r known stand = record { each = λ number entry there opened. by_entry number entry opened (job_there d.ledger.jobs number entry there) }
+  where
+    by_job : (number : ℕ) (entry : JobEntry) (job : KnownJob) → known_at known number ≡ Some job → StandsFor ends refuses keep (IsHeld at w r number) (length known) number job entry.credit Open
+        → (j : AdmittedJob) × (known_at known number ≡ Some (Itself j)) × (entry.credit ≡ j.credit) × IsHeld at w r number j
+    by_job number entry (Itself job) there t = (job, there, t.1, t.0)
+    by_job number entry (Over outcome) there (inl is) = absurd (over_open outcome is)
+    by_job number entry (Over outcome) there (inr gone) = let clash : Open ≡ Failed 76 = gone.0 in absurd cc
+
+    by_entry : (number : ℕ) (entry : JobEntry) → entry.standing ≡ Open → (1 ≤ number) × (slice_get d.ledger.jobs (number - 1) ≡ Some entry)
+        → (j : AdmittedJob) × (known_at known number ≡ Some (Itself j)) × (entry.credit ≡ j.credit) × IsHeld at w r number j
+    by_entry number entry opened there =
+        let some = there.0 in
+        let is : number - 1 + 1 ≡ number = omega (arith, some) in
+        let lt = within_get d.ledger.jobs (number - 1) entry there.1 in
+        let count = stand.count in
+        let job = get_within known (number - 1) (omega (arith, lt, count)) in
+        by_job number entry job.0 (known_is known number some ∙ job.1)
+        (subst (λ (p : ℕ × JobStanding). StandsFor ends refuses keep (IsHeld at w r p.0) (length known) p.0 job.0 entry.credit p.1) (λ k. (is k, opened k)) (stand.each (number - 1) entry job.0 there.1 job.1))
 
 -- ---- a result comes from its submit
 
@@ -268,3 +319,28 @@ module _ {R : Type 0} (m : JobsSteps R) (at : R → JobId → Option AdmittedJob
     pub comes_at_each : IsResultFrame (frame_of_event e) → ComesFromSubmit (λ n. ends (id_at place n)) known before number e ⊎ WasReported known number e
     comes_at_each f =
         comes_from (λ n. ends (id_at place n)) refuses (λ n job report ended. runs.whole (id_at place n) job report ended) first.keep begun.keys known before number e f told_at_each
+
+  -- open jobs are held by the runner of all jobs
+  module _ (first s : ServerState R) (events : List ServerEvent) (begun desk : DeskState) (happens : Happens m first events s) (there : slice_get first.desks place ≡ Some begun) (last : begun.keys ≡ latest begun.keys)
+      (now : slice_get s.desks place ≡ Some desk) (known : List KnownJob) (are : AreKnownAtFirst (λ r n. at r (id_at place n)) begun (waiting_of place first.waiting) first.jobs known) where
+    pub held_at_each : (later : List KnownJob) × AreKnown begun.keys known (part_of first.names place events) later × HoldsOpenJobs (λ r n. at r (id_at place n)) desk (waiting_of place s.waiting) s.jobs later
+    held_at_each =
+        let own = each_alone m place first begun there events s desk happens now in
+        let t = stood_behind (seen_by_desk m place) (λ r n. at r (id_at place n)) (λ n. ends (id_at place n)) refuses runs_seen first.keep begun (waiting_of place first.waiting) first.jobs last known are
+        (part_of first.names place events) (one_desk first.keep desk (waiting_of place s.waiting) own.left) own.happens (part_at_home first.names place events) in
+        let one = t.1 in
+        let same : desk ≡ t.0 = cc in
+        let open_jobs = open_held (λ r n. at r (id_at place n)) (λ n. ends (id_at place n)) refuses first.keep t.0 (waiting_of place s.waiting) own.left t.2.known t.2.stand in (
+          t.2.known,
+          t.2.are,
+          record {
+            each = λ number entry is opened.
+                let h = open_jobs.each number entry (subst (λ (d : DeskState). job_at d.ledger.jobs number ≡ Some entry) same is) opened in
+                (h.0, h.1, h.2, held_on (waiting_of place s.waiting) own.left number h.0 own.others h.3);
+          },
+        )
+      where
+        held_on : (w : List (JobId × AdmittedJob)) (r : R) (n : ℕ) (j : AdmittedJob) → Others m place r s.jobs → IsHeld (λ x k. at x (id_at place k)) w r n j → IsHeld (λ x k. at x (id_at place k)) w s.jobs n j
+        held_on w r n j others h =
+            let same = others_change_none r s.jobs n others in
+            record { there = elim h.there [ inl waits ↦ inl waits | inr runs ↦ inr (same ∙ runs) ]; only = λ other is. h.only other (sym same ∙ is) }

@@ -83,7 +83,7 @@ module _ {R : Type 0} (m : JobsSteps R) (place : ℕ) where
   }
 
 -- The part of a history that is a desk's is a history of a server with no other desk, from the same
--- desk on, and it leads to the desk as it is.
+-- desk on, and it leads to the desk as it is. Since its last step the runner had others' steps alone.
 pub record HasServerAlone {R : Type 0} (m : JobsSteps R) (place : ℕ) (first : ServerState R)
     (begun : DeskState) (events : List ServerEvent) (s : ServerState R) (desk : DeskState) : Type 0 where
   pub left : R
@@ -91,3 +91,4 @@ pub record HasServerAlone {R : Type 0} (m : JobsSteps R) (place : ℕ) (first : 
       (one_desk first.keep begun (waiting_of place first.waiting) first.jobs)
       (part_of first.names place events)
       (one_desk first.keep desk (waiting_of place s.waiting) left)
+  pub others : Others m place left s.jobs

@@ -8,6 +8,7 @@ use Rattle.credit_book.specs.declared.event.TaskEnd.{TaskEnd}
 use Rattle.job_core.specs.declared.admission.ProgramBytes.{ProgramBytes}
 use Rattle.job_core.specs.Admitted.{AdmittedJob}
 use Rattle.job_core.specs.Admission.{IsAdmittedFrom}
+use Rattle.accounts.specs.Jobs.{job_at}
 use Rattle.accounts.specs.declared.fault.SubmitFault.{SubmitFault}
 use Rattle.accounts.specs.declared.jobs.JobEntry.{JobEntry}
 use Rattle.accounts.specs.declared.jobs.JobStanding.{JobStanding}
@@ -179,6 +180,14 @@ pub record AreKnownAtFirst {R : Type 0} (at : R → ℕ → Option AdmittedJob) 
       → IsKnownAs (IsHeld at waiting r) (i + 1) entry job
   pub waits : (i : ℕ) (job : JobId × AdmittedJob) → slice_get waiting i ≡ Some job
       → (job.0.desk ≡ 0) × (known_at known job.0.number ≡ Some (Itself job.1))
+
+-- Each open job of the desk is the one that is known under its number, and it is held.
+pub record HoldsOpenJobs {R : Type 0} (at : R → ℕ → Option AdmittedJob) (desk : DeskState)
+    (waiting : List (JobId × AdmittedJob)) (r : R) (known : List KnownJob) : Type 0 where
+  pub each : (number : ℕ) (entry : JobEntry) → job_at desk.ledger.jobs number ≡ Some entry
+      → entry.standing ≡ Open
+      → (job : AdmittedJob) × (known_at known number ≡ Some (Itself job))
+      × (entry.credit ≡ job.credit) × IsHeld at waiting r number job
 
 -- ---- results
 

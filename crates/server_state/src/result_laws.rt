@@ -6,7 +6,7 @@ ghost use Rattle.server_state.specs.Alone.{part_of, waiting_of};
 ghost use Rattle.server_state.specs.Desks.{refusal_frame, submit_frame};
 ghost use Rattle.server_state.specs.Histories.{ServerEvent, Happens};
 ghost use Rattle.server_state.specs.Keyed.{frame_of_event};
-ghost use Rattle.server_state.specs.Results.{AreKnownAtFirst, AsksForResult, ComesFromSubmit, IsNewSubmit, IsResultFrame, IsSubmittedBefore, IsToldKnown, IsToldRefusal, KnownJob, StaysSent, WasReported};
+ghost use Rattle.server_state.specs.Results.{AreKnown, AreKnownAtFirst, AsksForResult, ComesFromSubmit, HoldsOpenJobs, IsNewSubmit, IsResultFrame, IsSubmittedBefore, IsToldKnown, IsToldRefusal, KnownJob, StaysSent, WasReported};
 ghost use Rattle.server_state.specs.States.{DeskState, ServerState, id_at, steps_of};
 
 use crate::job_ends::JobEnds;
@@ -70,6 +70,20 @@ pub fn results_come_from_submits<N: JobEnds>()
         (e : ServerEvent) (c : ComesFromSubmit (λ n. N.ends (id_at place n)) known before number e)
         (b : IsSubmittedBefore before number c.job)
         → c.report.spent + c.report.returned ≡ b.is_submit.credit }
+{}
+
+/// At each desk of any server, no job that was taken is lost. As long as a job is open, it waits for
+/// its start or the runner has it, and it is the very job that the submit of its number asked for.
+pub fn open_jobs_are_held<N: JobEnds>()
+    ensures { (first s : ServerState N) (events : List ServerEvent) (place : ℕ) (begun desk : DeskState)
+        → Happens (steps_of N.JobRunner) first events s
+        → slice_get first.desks place ≡ Some begun → begun.keys ≡ latest begun.keys
+        → slice_get s.desks place ≡ Some desk → (known : List KnownJob)
+        → AreKnownAtFirst (λ r n. N.at r (id_at place n)) begun (waiting_of place first.waiting)
+        first.jobs known
+        → (later : List KnownJob)
+        × AreKnown begun.keys known (part_of first.names place events) later
+        × HoldsOpenJobs (λ r n. N.at r (id_at place n)) desk (waiting_of place s.waiting) s.jobs later }
 {}
 
 /// At each desk of any server, what is sent of a job's result stays the same once the job is over,
