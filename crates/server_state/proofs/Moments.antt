@@ -204,8 +204,9 @@ module _ {R : Type 0} (m : JobsSteps R) (keep : KeepLimits) (P : List ServerEven
     pub behind : (events : List ServerEvent) (s : ServerState R) → Happens m (one_desk keep first waiting q) events s → (d : DeskState) × P events d s.waiting s.jobs
     behind events s happens = let a = each events s happens in (a.desk, a.holds)
 
-    pub desk_behind : (events : List ServerEvent) (s : ServerState R) → Happens m (one_desk keep first waiting q) events s → (d : DeskState) × (s.desks ≡ d ∷ []) × P events d s.waiting s.jobs
-    desk_behind events s happens = let a = each events s happens in (a.desk, a.desks, a.holds)
+    -- the desk behind a history, and the moments of its events
+    pub all_moments : (events : List ServerEvent) (s : ServerState R) → Happens m (one_desk keep first waiting q) events s → (d : DeskState) × (s.desks ≡ d ∷ []) × P events d s.waiting s.jobs × Moments m keep P events d
+    all_moments events s happens = let a = each events s happens in (a.desk, a.desks, a.holds, a.moments)
 
     pub moment : (before after : List ServerEvent) (x : ServerEvent) (s : ServerState R) → Happens m (one_desk keep first waiting q) (before ++ x ∷ after) s → (last : DeskState) × Moment m keep P before x last
     moment before after x s happens = let a = each (before ++ x ∷ after) s happens in (a.desk, a.moments before after x refl)

@@ -23,7 +23,7 @@ use Rattle.server_state.specs.States.{DeskState, JobsSteps, ServerState, id_at}
 use Rattle.server_state.proofs.AloneLemmas.{each_alone}
 use Rattle.server_state.proofs.HistoryStands.{AreAtHome, RunsNumbers, Stood, home_before, home_last, known_is, stood_aside, stood_asked, stood_begun, stood_ended, stood_none}
 use Rattle.server_state.proofs.ListEnds.{get_past, get_within, joined_again, within_get}
-use Rattle.server_state.proofs.Moments.{desk_behind, moment}
+use Rattle.server_state.proofs.Moments.{Moments, all_moments}
 use Rattle.server_state.proofs.ReplyFrames.{third, third_of_refused, third_of_result}
 use Rattle.server_state.proofs.StandsFor.{AllStand, StandsFor, get_pushed, over_open}
 use Rattle.server_state.proofs.StayLemmas.{sent_at}
@@ -106,39 +106,34 @@ module _ {R : Type 0} (m : JobsSteps R) (at : R → ℕ → Option AdmittedJob) 
     waits = are.waits;
   }
 
-  pub told_at : (before after : List ServerEvent) (e : ServerEvent) (number : ℕ) (s : ServerState R) → Happens m (one_desk keep begun waiting q) (before ++ e ∷ after) s → AreAtHome (before ++ e ∷ after) → AsksForResult number e
-      → IsToldKnown ends refuses keep begun.keys first before number e
-  told_at before after e number s happens home asks =
-      let t = moment m keep Stands
+  stands_behind : (events : List ServerEvent) (s : ServerState R) → Happens m (one_desk keep begun waiting q) events s → (d : DeskState) × (s.desks ≡ d ∷ []) × Stands events d s.waiting s.jobs × Moments m keep Stands events d
+  stands_behind events s happens =
+      all_moments m keep Stands
       (λ events d w connection access query frame started r x y was to replies all. stood_asked m at ends refuses runs keep begun.keys first events d w connection access query frame started r x y (was (home_before events _ all)) to replies)
       (λ events d w r connection access query frame started to was is aside all. stood_aside m at ends refuses runs keep begun.keys first events d w r connection access query frame started to (was (home_before events _ all)) is aside)
       (λ events d w id outcome r x y was takes here noted all. stood_ended m at ends refuses runs keep begun.keys first events d w id outcome r x y (was (home_before events _ all)) takes here noted)
       (λ events d w id outcome r y was takes apart all. absurd (apart (home_last events (has_ended id outcome) all)))
       (λ events d job others started r y was starts all. stood_begun m at ends refuses runs keep begun.keys first events d job others started r y (was all) starts)
       (λ events d w r y was none all. stood_none m at ends refuses runs keep begun.keys first events d w r y (was all) none)
-      begun waiting q at_first before after e s happens in
-      let stood = t.1.holds (home_before before (e ∷ after) home) in
+      begun waiting q at_first events s happens
+
+  pub told_at : (before after : List ServerEvent) (e : ServerEvent) (number : ℕ) (s : ServerState R) → Happens m (one_desk keep begun waiting q) (before ++ e ∷ after) s → AreAtHome (before ++ e ∷ after) → AsksForResult number e
+      → IsToldKnown ends refuses keep begun.keys first before number e
+  told_at before after e number s happens home asks =
+      let t = (stands_behind (before ++ e ∷ after) s happens).3 before after e refl in
+      let stood = t.holds (home_before before (e ∷ after) home) in
       record {
         known = stood.known;
         are = stood.are;
-        told = report_told (report_at t.1.old.ledger number);
-        sent = (sent_at m keep e t.1.old t.1.runner t.1.new t.1.left number asks t.1.comes).0;
-        is_result = result_told ends refuses keep stood.known t.1.old.ledger (IsHeld at t.1.waiting t.1.runner) number stood.stand;
+        told = report_told (report_at t.old.ledger number);
+        sent = (sent_at m keep e t.old t.runner t.new t.left number asks t.comes).0;
+        is_result = result_told ends refuses keep stood.known t.old.ledger (IsHeld at t.waiting t.runner) number stood.stand;
       }
 
   -- the desk behind a history
   pub stood_behind : (events : List ServerEvent) (s : ServerState R) → Happens m (one_desk keep begun waiting q) events s → AreAtHome events
       → (d : DeskState) × (s.desks ≡ d ∷ []) × Stood m at ends refuses runs keep begun.keys first events d s.waiting s.jobs
-  stood_behind events s happens home =
-      let t = desk_behind m keep Stands
-      (λ events d w connection access query frame started r x y was to replies all. stood_asked m at ends refuses runs keep begun.keys first events d w connection access query frame started r x y (was (home_before events _ all)) to replies)
-      (λ events d w r connection access query frame started to was is aside all. stood_aside m at ends refuses runs keep begun.keys first events d w r connection access query frame started to (was (home_before events _ all)) is aside)
-      (λ events d w id outcome r x y was takes here noted all. stood_ended m at ends refuses runs keep begun.keys first events d w id outcome r x y (was (home_before events _ all)) takes here noted)
-      (λ events d w id outcome r y was takes apart all. absurd (apart (home_last events (has_ended id outcome) all)))
-      (λ events d job others started r y was starts all. stood_begun m at ends refuses runs keep begun.keys first events d job others started r y (was all) starts)
-      (λ events d w r y was none all. stood_none m at ends refuses runs keep begun.keys first events d w r y (was all) none)
-      begun waiting q at_first events s happens in
-      (t.0, t.1, t.2 home)
+  stood_behind events s happens home = let t = stands_behind events s happens in (t.0, t.1, t.2 home)
 
 -- ---- open jobs are held
 
