@@ -175,7 +175,7 @@ impl<E, J: LogName> SharedLog<E, J> {
         }
     }
 
-    // AddsToLog the entry that the call picks.
+    // Adds the entry that the call picks.
     fn add_as<P: Picks<E>, T>(
         &self,
         seat: &mut LogSeat<E, J>,
@@ -198,7 +198,7 @@ impl<E, J: LogName> SharedLog<E, J> {
         keeper.seat = left;
     }
 
-    /// AddsToLog the entry of this item behind all others, as one of this seat.
+    /// Adds the entry of this item behind all others, as one of this seat.
     pub fn add<T: Logged<E>>(
         &self,
         seat: &mut LogSeat<E, J>,
