@@ -1,1 +1,3 @@
 pub mod LedgerRecords
+pub mod DeskRecords
+pub mod ChangedRows

@@ -1,63 +1,34 @@
 //! Laws of a ledger and its records: what changes the one changes the other alike.
 
-ghost use Rattle.std.specs.Prelude.{◌≡◌, ◌≤◌, ℕ, List, Result, Some, length};
-ghost use Rattle.accounts.specs.Jobs.{job_at, settled};
-ghost use Rattle.accounts.specs.Ledgers.{Finishes, GrantsMore, Ledger, Takes};
-ghost use Rattle.accounts.specs.declared.jobs.JobEntry.{JobEntry};
+ghost use Rattle.std.specs.Prelude.{◌≡◌, ◌≤◌, ◌<◌, ◌+◌, ℕ, All, List, Result, None, length};
+ghost use Rattle.accounts.specs.Ledgers.{Finishes, Forgets, GrantsMore, Ledger, Takes, granted_to};
 ghost use Rattle.credit_book.specs.declared.book.Report.{Report};
+ghost use Rattle.desk_records.specs.Columns.{most_numbers};
 ghost use Rattle.desk_records.specs.Made.{made};
 ghost use Rattle.desk_records.specs.Stored.{Ledgers};
-ghost use Rattle.desk_records.specs.declared.changes.ForgottenJob.{ForgottenJob};
-ghost use Rattle.desk_records.specs.declared.changes.StoredChange.{StoredChange};
-ghost use Rattle.desk_records.specs.declared.changes.StoredChange.TheVariants.{Forgotten, Granted, Settled, Taken};
-ghost use Rattle.desk_records.specs.declared.stored_job.StoredJob.{StoredJob};
-ghost use Rattle.desk_records.specs.declared.stored_outcome.StoredOutcome.{StoredOutcome};
+ghost use Rattle.desk_records.specs.declared.stored_change.ForgottenJobs.{ForgottenJobs};
+ghost use Rattle.desk_records.specs.declared.stored_change.SettledJob.{SettledJob};
+ghost use Rattle.desk_records.specs.declared.stored_change.StoredChange.TheVariants.{Forgotten, Granted, Settled, Taken};
+ghost use Rattle.desk_records.specs.declared.stored_change.TakenJob.{TakenJob};
 ghost use Rattle.desk_records.specs.declared.stored_tenant.StoredTenant.{StoredTenant};
-ghost use Rattle.ledger_records.specs.LedgerRecords.{AreLedgersAlike, CameTo, ForgetsOne, HasItsNumber, IsLedgerOf, IsOfAnother, IsRowOfForgotten, IsRowOfGrant};
+ghost use Rattle.ledger_records.specs.ChangedRows.{AreRowsOfEnd, AreRowsOfForgotten, IsRowOfGrant};
+ghost use Rattle.ledger_records.specs.LedgerRecords.{HasFewerKeyed, IsLedgerOf, spent_of};
 
-/// A grant puts the tenant's row, and the records are those of the ledger behind it.
 pub fn grants_are_kept()
-    ensures { (desk : ℕ) (l : Ledgers) (old new : Ledger) (name : List ℕ) (amount : ℕ)
-        (t : StoredTenant) → IsLedgerOf desk l old → GrantsMore old name amount new
-        → IsRowOfGrant desk old name amount t → HasItsNumber l.tenants t
-        → IsLedgerOf desk (made l (Granted t)) new }
+    ensures { (desk : ℕ) (l : Ledgers) (old new : Ledger) (name : List ℕ) (amount : ℕ) (t : StoredTenant) → IsLedgerOf desk l old → GrantsMore old name amount new → (granted_to old name ≡ None → spent_of old name ≡ 0)
+    → IsRowOfGrant desk l name amount t → IsLedgerOf desk (made l (Granted t)) new }
 {}
 
-/// A submit puts the job's row, and the records are those of the ledger behind it.
 pub fn submits_are_kept()
-    ensures { (desk : ℕ) (l : Ledgers) (old new : Ledger) (name : List ℕ) (job : StoredJob)
-        → IsLedgerOf desk l old → Takes old name job.credit new → job.desk ≡ desk
-        → job.tenant ≡ name → job.number ≡ length new.jobs
-        → IsLedgerOf desk (made l (Taken job)) new }
+    ensures { (desk : ℕ) (l : Ledgers) (old new : Ledger) (name : List ℕ) (t : TakenJob) → IsLedgerOf desk l old → Takes old name t.job.credit new → t.job.desk ≡ desk → t.job.tenant ≡ name
+    → t.job.number ≡ length old.jobs + 1 → t.job.number < most_numbers → All (HasFewerKeyed desk (length old.jobs + 1)) (made l (Taken t)).keys → IsLedgerOf desk (made l (Taken t)) new }
 {}
 
-/// An end puts the outcome's row, and the records are those of the ledger behind it.
 pub fn ends_are_kept()
-    ensures { (desk : ℕ) (l : Ledgers) (old new : Ledger) (outcome : Result Report ℕ)
-        (o : StoredOutcome) → IsLedgerOf desk l old → Finishes old o.number outcome new
-        → o.desk ≡ desk → 1 ≤ o.number
-        → ((entry : JobEntry) → job_at old.jobs o.number ≡ Some entry
-        → CameTo (settled entry.credit outcome) o.outcome)
-        → IsLedgerOf desk (made l (Settled o)) new }
+    ensures { (desk : ℕ) (l : Ledgers) (old new : Ledger) (number : ℕ) (outcome : Result Report ℕ) (s : SettledJob) → IsLedgerOf desk l old → Finishes old number outcome new → AreRowsOfEnd desk l number outcome s
+    → 1 ≤ number → number < most_numbers → IsLedgerOf desk (made l (Settled s)) new }
 {}
 
-/// A job that is forgotten leaves no row, and the records are those of the ledger behind it.
 pub fn forgettings_are_kept()
-    ensures { (desk : ℕ) (l : Ledgers) (old new : Ledger) (f : ForgottenJob)
-        → IsLedgerOf desk l old → (one : ForgetsOne old f.number new)
-        → IsRowOfForgotten desk old one.entry f.tenant → HasItsNumber l.tenants f.tenant
-        → f.desk.desk ≡ desk → 1 ≤ f.number → IsLedgerOf desk (made l (Forgotten f)) new }
-{}
-
-/// A change at another desk leaves the records of this desk's ledger.
-pub fn other_desks_are_kept()
-    ensures { (desk : ℕ) (l : Ledgers) (ledger : Ledger) (change : StoredChange)
-        → IsLedgerOf desk l ledger → IsOfAnother desk l change
-        → IsLedgerOf desk (made l change) ledger }
-{}
-
-/// Records tell the ledger: two that have the same records are alike.
-pub fn records_tell_the_ledger()
-    ensures { (desk : ℕ) (l : Ledgers) (first second : Ledger) → IsLedgerOf desk l first
-        → IsLedgerOf desk l second → AreLedgersAlike first second }
+    ensures { (desk : ℕ) (l : Ledgers) (old new : Ledger) (ahead : ℕ) (f : ForgottenJobs) → IsLedgerOf desk l old → Forgets old ahead new → AreRowsOfForgotten desk l ahead f → IsLedgerOf desk (made l (Forgotten f)) new }
 {}

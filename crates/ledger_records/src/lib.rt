@@ -3,7 +3,4 @@
 
 mod laws;
 
-pub use laws::{
-    ends_are_kept, forgettings_are_kept, grants_are_kept, other_desks_are_kept,
-    records_tell_the_ledger, submits_are_kept,
-};
+pub use laws::{ends_are_kept, forgettings_are_kept, grants_are_kept, submits_are_kept};

@@ -1,4 +1,4 @@
-use Rattle.ledger_records.proofs.Steps.{forgotten_kept}
+use Rattle.ledger_records.proofs.Forgetting.{forgotten_kept}
 use Rattle.ledger_records.proofs.laws.forgettings_are_kept.Goals as goal
 
 pub returns : goal.returns
