@@ -158,7 +158,7 @@ narrow_keys : (keys : List StoredKey) (key : Option NotedKey) → All IsNarrowKe
 narrow_keys keys None each here = each
 narrow_keys keys (Some k) each here = narrow_left k.key.desk (insert_by key_id keys k.key) k.dropped (all_insert IsNarrowKey key_id keys k.key each here.0)
 
-narrow_made : (l : Ledgers) (change : StoredChange) → AreNarrow l → IsNarrowChange change → AreNarrow (made l change)
+pub narrow_made : (l : Ledgers) (change : StoredChange) → AreNarrow l → IsNarrowChange change → AreNarrow (made l change)
 narrow_made l (Granted t) n c = record { tenants = all_insert IsNarrowTenant tenant_key l.tenants t n.tenants c; jobs = n.jobs; outcomes = n.outcomes; desks = n.desks; keys = n.keys }
 narrow_made l (Taken t) n c = record { tenants = n.tenants; jobs = all_insert IsNarrowJob stored_job_key l.jobs t.job n.jobs c.0; outcomes = n.outcomes; desks = n.desks; keys = narrow_keys l.keys t.key n.keys c.1 }
 narrow_made l (Settled s) n c = record {

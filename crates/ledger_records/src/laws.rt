@@ -1,34 +1,32 @@
-//! Laws of a ledger and its records: what changes the one changes the other alike.
+//! Laws of desks and their records: what changes the ones changes the others alike.
 
-ghost use Rattle.std.specs.Prelude.{◌≡◌, ◌≤◌, ◌<◌, ◌+◌, ℕ, All, List, Result, None, length};
-ghost use Rattle.accounts.specs.Ledgers.{Finishes, Forgets, GrantsMore, Ledger, Takes, granted_to};
-ghost use Rattle.credit_book.specs.declared.book.Report.{Report};
-ghost use Rattle.desk_records.specs.Columns.{most_numbers};
-ghost use Rattle.desk_records.specs.Made.{made};
-ghost use Rattle.desk_records.specs.Stored.{Ledgers};
-ghost use Rattle.desk_records.specs.declared.stored_change.ForgottenJobs.{ForgottenJobs};
-ghost use Rattle.desk_records.specs.declared.stored_change.SettledJob.{SettledJob};
-ghost use Rattle.desk_records.specs.declared.stored_change.StoredChange.TheVariants.{Forgotten, Granted, Settled, Taken};
-ghost use Rattle.desk_records.specs.declared.stored_change.TakenJob.{TakenJob};
-ghost use Rattle.desk_records.specs.declared.stored_tenant.StoredTenant.{StoredTenant};
-ghost use Rattle.ledger_records.specs.ChangedRows.{AreRowsOfEnd, AreRowsOfForgotten, IsRowOfGrant};
-ghost use Rattle.ledger_records.specs.LedgerRecords.{HasFewerKeyed, IsLedgerOf, spent_of};
+ghost use Rattle.std.specs.Prelude.{◌≡◌, ℕ, List, Some, slice_get};
+ghost use Rattle.sqlite_trees.specs.Tree.{Trees};
+ghost use Rattle.desk_records.specs.Changes.{all_changed};
+ghost use Rattle.desk_records.specs.Made.{all_made};
+ghost use Rattle.desk_records.specs.Stored.{AreNarrow, IsStored, Ledgers};
+ghost use Rattle.desk_records.specs.declared.stored_change.StoredChange.{StoredChange};
+ghost use Rattle.server_state.specs.States.{DeskState};
+ghost use Rattle.server_state.specs.declared.change.Change.{Change};
+ghost use Rattle.ledger_records.specs.ChangedRows.{AreRecorded};
+ghost use Rattle.ledger_records.specs.DeskRecords.{AreDesksOf, AreStatesAlike, IsDeskOf};
 
-pub fn grants_are_kept()
-    ensures { (desk : ℕ) (l : Ledgers) (old new : Ledger) (name : List ℕ) (amount : ℕ) (t : StoredTenant) → IsLedgerOf desk l old → GrantsMore old name amount new → (granted_to old name ≡ None → spent_of old name ≡ 0)
-    → IsRowOfGrant desk l name amount t → IsLedgerOf desk (made l (Granted t)) new }
+/// Changes of desks, and the rows that are written of each: the records behind them are those of the
+/// desks behind them, each at its place.
+pub fn records_follow_desks()
+    ensures { (desks : List DeskState) (l : Ledgers) (changes : List Change)
+        (all : List StoredChange) (after : List DeskState) → AreDesksOf l desks
+        → AreRecorded desks l changes all after → AreDesksOf (all_made l all) after }
 {}
 
-pub fn submits_are_kept()
-    ensures { (desk : ℕ) (l : Ledgers) (old new : Ledger) (name : List ℕ) (t : TakenJob) → IsLedgerOf desk l old → Takes old name t.job.credit new → t.job.desk ≡ desk → t.job.tenant ≡ name
-    → t.job.number ≡ length old.jobs + 1 → t.job.number < most_numbers → All (HasFewerKeyed desk (length old.jobs + 1)) (made l (Taken t)).keys → IsLedgerOf desk (made l (Taken t)) new }
-{}
-
-pub fn ends_are_kept()
-    ensures { (desk : ℕ) (l : Ledgers) (old new : Ledger) (number : ℕ) (outcome : Result Report ℕ) (s : SettledJob) → IsLedgerOf desk l old → Finishes old number outcome new → AreRowsOfEnd desk l number outcome s
-    → 1 ≤ number → number < most_numbers → IsLedgerOf desk (made l (Settled s)) new }
-{}
-
-pub fn forgettings_are_kept()
-    ensures { (desk : ℕ) (l : Ledgers) (old new : Ledger) (ahead : ℕ) (f : ForgottenJobs) → IsLedgerOf desk l old → Forgets old ahead new → AreRowsOfForgotten desk l ahead f → IsLedgerOf desk (made l (Forgotten f)) new }
+/// A desk that is made of the records that the rows of changes left is alike the desk behind these
+/// changes.
+pub fn restored_desks_are_alike()
+    ensures { (desks : List DeskState) (l : Ledgers) (changes : List Change)
+        (all : List StoredChange) (after : List DeskState) (db : Trees) (loaded : Ledgers)
+        (place : ℕ) (state restored : DeskState) → AreDesksOf l desks
+        → AreRecorded desks l changes all after → IsStored db l
+        → IsStored (all_changed db all) loaded → AreNarrow loaded
+        → slice_get after place ≡ Some state → IsDeskOf place loaded restored
+        → AreStatesAlike state restored }
 {}
