@@ -1,3 +1,4 @@
 pub mod LedgerRecords
 pub mod DeskRecords
 pub mod ChangedRows
+pub mod SoFar

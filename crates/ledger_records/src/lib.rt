@@ -1,6 +1,13 @@
 //! The desks of a server and their records in a store: the same thing twice.
 #![tactic(auto)]
 
+// laws
 mod laws;
 
 pub use laws::{records_follow_desks, restored_desks_are_alike};
+
+// a restart
+mod restored_desk;
+mod restoring;
+
+pub use restored_desk::{RestoredDesk, RestoredJob};
