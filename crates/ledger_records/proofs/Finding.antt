@@ -17,7 +17,7 @@ use Rattle.desk_records.proofs.MadeLemmas.{all_without}
 use Rattle.ledger_records.specs.ChangedRows.{is_among}
 use Rattle.ledger_records.specs.LedgerRecords.{HasItsNumber, is_tenant}
 
-or_true : (a b : Bool) → b ≡ true → (a || b) ≡ true
+pub or_true : (a b : Bool) → b ≡ true → (a || b) ≡ true
 or_true true b is = refl
 or_true false b is = is
 

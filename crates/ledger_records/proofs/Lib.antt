@@ -5,3 +5,4 @@ pub mod Keys
 pub mod Others
 pub mod Alike
 pub mod Chain
+pub mod SoFarLemmas

@@ -32,7 +32,7 @@ pub all_weaker : {X : Type 0} (P Q : X → Type 0) → ((x : X) → P x → Q x)
 all_weaker P Q weaker xs each = λ k d lt. weaker (get_or xs k d) (each k d lt)
 
 -- a tenant's row is found where the name is its own
-own_name : (desk : ℕ) (name q : List ℕ) (t : StoredTenant) → t.desk ≡ desk → t.name ≡ name → is_tenant desk q t ≡ bytes_eq name q
+pub own_name : (desk : ℕ) (name q : List ℕ) (t : StoredTenant) → t.desk ≡ desk → t.name ≡ name → is_tenant desk q t ≡ bytes_eq name q
 own_name desk name q t at named =
     let same : (t.desk == desk) ≡ true = grind (arith, nat_tests) in
     rw (same, named) refl
@@ -80,7 +80,7 @@ at_number jobs number first =
 
 -- ---- a submit
 
-spent_open : (q : List ℕ) (entry : JobEntry) → entry.standing ≡ stands.Open → spent_for q entry ≡ 0
+pub spent_open : (q : List ℕ) (entry : JobEntry) → entry.standing ≡ stands.Open → spent_for q entry ≡ 0
 spent_open q entry opened = go (bytes_eq q (string_bytes entry.tenant)) refl
   where
     go : (b : Bool) → bytes_eq q (string_bytes entry.tenant) ≡ b → spent_for q entry ≡ 0
