@@ -2,7 +2,8 @@
 use Rattle.std.proofs.Common.{◌≡◌, ◌≢◌, ◌⊎◌, ◌+◌, ◌-◌, ◌<◌, ◌≤◌, ◌==◌, ℕ, zero, suc, ℤ, pos, All, Bool, true, false, cond, ◌||◌, List, [], ◌∷◌, ◌++◌, length, find, Option, Some, None, refl, sym, ap, subst, ◌∙◌, arith, int_eq, inl, inr, option_map, length-append, nat_eq, slice_get, sum_by, string_bytes}
 use Rattle.std.proofs.lemmas.Bool.{cases_eq}
 use Rattle.std.proofs.lemmas.Bool.Decides.{nat_tests}
-use Rattle.std.proofs.lemmas.List.Elements.{All-push}
+use Rattle.std.proofs.lemmas.List.Elements.{All-head, All-push, All-tail}
+use Rattle.std.proofs.lemmas.List.{append_assoc, append-nil}
 use Rattle.std.proofs.lemmas.List.Sums.{sum_by_push, sum_by-append}
 use Rattle.std.proofs.lemmas.Option.{slice_get_within, get_or_from_slice_get}
 use Rattle.std.proofs.lemmas.Slice.Eq.{bytes_eq-Decides}
@@ -19,12 +20,12 @@ use Rattle.accounts.specs.declared.jobs.JobStanding.TheVariants as stands
 use Rattle.accounts.proofs.Keeping.{spent_gone, sum_none}
 use Rattle.desk_records.specs.Columns.{id_of, most_numbers}
 use Rattle.desk_records.specs.Made.{outcome_key, stored_job_key}
-use Rattle.desk_records.specs.Records.{IsNarrowJob}
+use Rattle.desk_records.specs.Records.{IsNarrowJob, IsNarrowOutcome}
 use Rattle.desk_records.specs.declared.stored_job.StoredJob.{StoredJob}
 use Rattle.desk_records.specs.declared.stored_outcome.StoredOutcome.{StoredOutcome}
 use Rattle.desk_records.specs.declared.stored_tenant.StoredTenant.{StoredTenant}
 use Rattle.ledger_records.specs.LedgerRecords.{CameTo, HasFewerJobs, StandsAs, is_tenant, spent_of}
-use Rattle.ledger_records.specs.SoFar.{EndsSoFar, GoesPastRow, HasAccounts, IsHeldIfOpen, IsOutcomeOf, IsRestoredFrom, IsSoFar, PutsRow, StandsSoFar, is_held, with_outcome}
+use Rattle.ledger_records.specs.SoFar.{EndsSoFar, GoesPastRow, HasAccounts, IsHeldIfOpen, IsOutcomeOf, IsRestoredFrom, IsSoFar, PutsRow, SplitsOutcome, StandsSoFar, is_held, with_outcome}
 use Rattle.ledger_records.specs.declared.restored_desk.RestoredJob.{RestoredJob}
 use Rattle.ledger_records.proofs.Finding.{apart, desks_apart, get_last, get_other, itself, or_true}
 use Rattle.ledger_records.proofs.Forgetting.{get_none, past_end}
@@ -404,3 +405,45 @@ so_far_begun desk tenants ledger has =
       ends = both.1;
       are = record { each = λ k d lt. absurd (omega (arith, lt)); all = λ k d lt. absurd (omega (arith, lt)) };
     }
+
+all_at : {X : Type 0} (P : X → Type 0) (xs : List X) (x : X) (ys : List X) → All P (xs ++ x ∷ ys) → P x
+all_at P [] x ys each = All-head P x ys each
+all_at P (y ∷ xs) x ys each = all_at P xs x ys (All-tail P y (xs ++ x ∷ ys) each)
+
+-- one row more of all rows
+pub row_more : (desk : ℕ) (tenants : List StoredTenant) (jobs done rows others : List StoredJob) (outcomes past left behind : List StoredOutcome) (row : StoredJob) (o : Option StoredOutcome) (old new : Ledger) (rs after : List RestoredJob) → All IsNarrowJob jobs → All IsNarrowOutcome outcomes → jobs ≡ done ++ rows
+    → outcomes ≡ past ++ left → IsSoFar desk tenants done past old rs → rows ≡ row ∷ others → SplitsOutcome row left o behind → GoesPastRow desk row o old rs new after
+    → (more : List StoredJob) × (gone : List StoredOutcome) × (jobs ≡ more ++ others) × (outcomes ≡ gone ++ behind) × IsSoFar desk tenants more gone new after
+row_more desk tenants jobs done rows others outcomes past left behind row o old new rs after narrow small are of is first splits goes = by_outcome o splits goes
+  where
+    all : jobs ≡ done ++ row ∷ others
+    all = are ∙ ap (λ (r : List StoredJob). done ++ r) first
+
+    fits : row.number < most_numbers
+    fits = (all_at IsNarrowJob done row others (subst (All IsNarrowJob) all narrow)).number
+
+    long : jobs ≡ (done ++ row ∷ []) ++ others
+    long = all ∙ sym (append_assoc done (row ∷ []) others)
+
+    by_outcome : (o : Option StoredOutcome) → SplitsOutcome row left o behind → GoesPastRow desk row o old rs new after
+        → (more : List StoredJob) × (gone : List StoredOutcome) × (jobs ≡ more ++ others) × (outcomes ≡ gone ++ behind) × IsSoFar desk tenants more gone new after
+    by_outcome None splits goes = (done ++ row ∷ [], past, long, of ∙ ap (λ (r : List StoredOutcome). past ++ r) (sym splits), row_done desk tenants done past old rs is row fits None new after tt goes)
+    by_outcome (Some x) splits goes =
+        let whole : outcomes ≡ past ++ x ∷ behind = of ∙ ap (λ (r : List StoredOutcome). past ++ r) splits.0 in
+        let low : x.number < most_numbers = (all_at IsNarrowOutcome past x behind (subst (All IsNarrowOutcome) whole small)).number in (
+          done ++ row ∷ [],
+          past ++ x ∷ [],
+          long,
+          whole ∙ sym (append_assoc past (x ∷ []) behind),
+          row_done desk tenants done past old rs is row fits (Some x) new after (splits.1, splits.2, low) goes,
+        )
+
+none_left : {X : Type 0} (all done rows : List X) → all ≡ done ++ rows → length rows ≡ 0 → done ≡ all
+none_left all done [] are none = sym (are ∙ append-nil done)
+none_left all done (x ∷ xs) are none = absurd (cc)
+
+-- all rows are done
+pub rows_done : (desk : ℕ) (tenants : List StoredTenant) (jobs done rows : List StoredJob) (outcomes past left : List StoredOutcome) (ledger : Ledger) (rs : List RestoredJob) → jobs ≡ done ++ rows → outcomes ≡ past ++ left → IsSoFar desk tenants done past ledger rs → length rows ≡ 0 → length left ≡ 0
+    → IsSoFar desk tenants jobs outcomes ledger rs
+rows_done desk tenants jobs done rows outcomes past left ledger rs are of is none gone =
+    subst (λ (js : List StoredJob). IsSoFar desk tenants js outcomes ledger rs) (none_left jobs done rows are none) (subst (λ (os : List StoredOutcome). IsSoFar desk tenants done os ledger rs) (none_left outcomes past left of gone) is)

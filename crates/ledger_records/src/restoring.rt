@@ -1,26 +1,24 @@
 //! Desks that are put together from their records.
 
-ghost use Rattle.std.specs.Prelude.{◌≡◌, ◌≢◌, ◌⊎◌, ◌+◌, ◌≤◌, ◌++◌, ◌∷◌, [], ℕ, All, List, IfOk, OnOk, false, length};
-ghost use Rattle.accounts.specs.Jobs.{is_open};
+ghost use Rattle.std.specs.Prelude.{◌≡◌, ◌≢◌, ◌⊎◌, ◌+◌, ℕ, IfOk, OnOk, length, option_map};
 ghost use Rattle.accounts.specs.Ledgers.{Takes};
 ghost use Rattle.accounts.specs.Restoring.{AddsGone, OpensAccount, Recalls};
 ghost use Rattle.accounts.specs.declared.jobs.JobStanding.{JobStanding};
 ghost use Rattle.accounts.specs.declared.jobs.JobStanding.TheVariants.{Reported};
+ghost use Rattle.desk_records.specs.Stored.{AreNarrow};
 ghost use Rattle.desk_records.specs.declared.stored_outcome.StoredResult.TheVariants.{Reported as StoredReported};
-ghost use Rattle.desk_records.specs.Records.{IsNarrowJob, IsNarrowOutcome};
-ghost use Rattle.desk_records.specs.declared.stored_job.StoredJob.{StoredJob};
-ghost use Rattle.desk_records.specs.declared.stored_outcome.StoredOutcome.{StoredOutcome};
-ghost use Rattle.desk_records.specs.declared.stored_tenant.StoredTenant.{StoredTenant};
 ghost use Rattle.desk_journal.specs.Changes.{program_bytes};
 ghost use Rattle.desk_journal.specs.Encodings.{list_bytes};
 ghost use Rattle.ledger_records.specs.LedgerRecords.{CameTo};
-ghost use Rattle.ledger_records.specs.SoFar.{HasAccounts, IsAdmittedAs, IsRestoredFrom, StandsSoFar};
+ghost use Rattle.ledger_records.specs.SoFar.{GoesPastRow, HasAccounts, IsAdmittedAs, IsSoFar, PutsRow, SplitsOutcome};
 
 use crate::restored_desk::RestoredJob;
 use accounts::{Desk, JobStanding, KeptReport, RestoreFault, SubmitFault};
 use credit_book::{Report, TaskEnd};
 use desk_journal::{ReadFault, read_whole};
-use desk_records::{StoredJob, StoredOutcome, StoredReport, StoredResult, StoredTenant, row_id};
+use desk_records::{
+    StoredJob, StoredOutcome, StoredRecords, StoredReport, StoredResult, StoredTenant, row_id,
+};
 use desk_store::{LoadFault, StoreTable};
 use job_core::{AdmitFault, ProgramBytes};
 use sqlite_trees::error::StoreError;
@@ -170,5 +168,91 @@ fn skip_to(desk: &mut Desk, row: &StoredJob) -> Result<(), LoadFault>
     match desk.add_gone(row.number - 1 - count) {
         Ok(()) => Ok(()),
         Err(_) => Err(damaged(StoreTable::Job, row.desk, row.number)),
+    }
+}
+
+// Puts the job of a row behind the others, with its outcome, if it has one.
+fn put_row(
+    alloc: Global,
+    desk: &mut Desk,
+    open_jobs: &mut Vec<RestoredJob>,
+    row: &StoredJob,
+    outcome: Option<&StoredOutcome>,
+) -> Result<(), LoadFault>
+    ensures { OnOk result (PutsRow row.now (option_map (λ o. o.now) outcome.entry) desk.old
+        open_jobs.old.items desk.new open_jobs.new.items) }
+{
+    skip_to(desk, row)?;
+    match outcome {
+        Some(outcome) => put_over(alloc, desk, row, outcome),
+        None => {
+            open_jobs.reserve(1)?;
+            let job = put_open(alloc, desk, row)?;
+            open_jobs.push_reserved(job);
+            Ok(())
+        }
+    }
+}
+
+// The same where the row is one of the desk. Any other is passed over.
+fn restore_row(
+    alloc: Global,
+    number: u16,
+    desk: &mut Desk,
+    open_jobs: &mut Vec<RestoredJob>,
+    row: &StoredJob,
+    outcome: Option<&StoredOutcome>,
+) -> Result<(), LoadFault>
+    ensures { OnOk result (GoesPastRow number row.now (option_map (λ o. o.now) outcome.entry)
+        desk.old open_jobs.old.items desk.new open_jobs.new.items) }
+{
+    if row.desk != number {
+        return Ok(());
+    }
+    put_row(alloc, desk, open_jobs, row, outcome)
+}
+
+// The first of these outcomes, where it is that of the row's job, and the others.
+fn split_outcome<'a>(
+    row: &StoredJob,
+    outcomes: &'a [StoredOutcome],
+) -> (Option<&'a StoredOutcome>, &'a [StoredOutcome])
+    ensures { SplitsOutcome row.now outcomes.now (option_map (λ o. o.now) result.0) result.1.now }
+{
+    let Some((outcome, others)) = outcomes.split_first() else {
+        return (None, outcomes);
+    };
+    if outcome.desk != row.desk {
+        return (None, outcomes);
+    }
+    if outcome.number != row.number {
+        return (None, outcomes);
+    }
+    (Some(outcome), others)
+}
+
+/// The ledger of a desk, and its open jobs, from the rows of all desks.
+pub(crate) fn restore_ledger(
+    alloc: Global,
+    number: u16,
+    records: &StoredRecords,
+) -> Result<(Desk, Vec<RestoredJob>), LoadFault>
+    requires { AreNarrow records.now }
+    ensures { IfOk result (λ r. IsSoFar number records.now.tenants records.now.jobs
+        records.now.outcomes r.0 r.1.items) }
+{
+    let mut desk = open_accounts(alloc, number, records.tenants.as_slice())?;
+    let mut open_jobs = Vec::new(alloc);
+    let mut rows = records.jobs.as_slice();
+    let mut outcomes = records.outcomes.as_slice();
+    'rows: while let Some((row, others)) = rows.split_first() {
+        let (outcome, behind) = split_outcome(row, outcomes);
+        restore_row(alloc, number, &mut desk, &mut open_jobs, row, outcome)?;
+        rows = others;
+        outcomes = behind;
+    }
+    match outcomes.split_first() {
+        Some((left, _)) => Err(damaged(StoreTable::Outcome, left.desk, left.number)),
+        None => Ok((desk, open_jobs)),
     }
 }
