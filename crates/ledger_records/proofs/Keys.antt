@@ -27,10 +27,10 @@ use Rattle.ledger_records.specs.DeskRecords.{is_key_of, keyed_job, keys_of}
 pub same_id : (d e n m : ℕ) → n < most_numbers → m < most_numbers → pos (id_of d n) ≡ pos (id_of e m) → (d ≡ e) × (n ≡ m)
 same_id d e n m one two same = let k : id_of d n ≡ id_of e m = cc same in (omega (arith, k, one, two), omega (arith, k, one, two))
 
-is_own : (desk : ℕ) (k : StoredKey) → is_key_of desk k ≡ true → k.desk ≡ desk
+pub is_own : (desk : ℕ) (k : StoredKey) → is_key_of desk k ≡ true → k.desk ≡ desk
 is_own desk k own = grind (arith, nat_tests)
 
-own_is : (desk : ℕ) (k : StoredKey) → k.desk ≡ desk → is_key_of desk k ≡ true
+pub own_is : (desk : ℕ) (k : StoredKey) → k.desk ≡ desk → is_key_of desk k ≡ true
 own_is desk k own = grind (arith, nat_tests)
 
 -- ---- keys of other desks
@@ -164,7 +164,7 @@ abbrev one_more : List KeyedJob → KeyedJob → List KeyedJob
 one_more keys k = keys ++ k ∷ []
 
 -- fewer than 1,000: all stay
-all_stay : (keys : List KeyedJob) (k : KeyedJob) → length keys < 1000 → latest (one_more keys k) ≡ one_more keys k
+pub all_stay : (keys : List KeyedJob) (k : KeyedJob) → length keys < 1000 → latest (one_more keys k) ≡ one_more keys k
 all_stay keys k few =
     let q = length-append keys (k ∷ []) in
     let none : length (one_more keys k) - 1000 ≡ 0 = omega (arith, q, few) in

@@ -6,3 +6,4 @@ pub mod Others
 pub mod Alike
 pub mod Chain
 pub mod SoFarLemmas
+pub mod DeskLemmas

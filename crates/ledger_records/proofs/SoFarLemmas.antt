@@ -26,7 +26,7 @@ use Rattle.desk_records.specs.declared.stored_outcome.StoredOutcome.{StoredOutco
 use Rattle.desk_records.specs.declared.stored_tenant.StoredTenant.{StoredTenant}
 use Rattle.ledger_records.specs.LedgerRecords.{CameTo, HasFewerJobs, StandsAs, is_tenant, spent_of}
 use Rattle.ledger_records.specs.SoFar.{EndsSoFar, GoesPastRow, HasAccounts, IsHeldIfOpen, IsOutcomeOf, IsRestoredFrom, IsSoFar, PutsRow, SplitsOutcome, StandsSoFar, is_held, with_outcome}
-use Rattle.ledger_records.specs.declared.restored_desk.RestoredJob.{RestoredJob}
+use Rattle.ledger_records.specs.declared.restored_job.RestoredJob.{RestoredJob}
 use Rattle.ledger_records.proofs.Finding.{apart, desks_apart, get_last, get_other, itself, or_true}
 use Rattle.ledger_records.proofs.Forgetting.{get_none, past_end}
 use Rattle.ledger_records.proofs.Steps.{all_weaker, at_number, own_name, spent_open, stands_by}

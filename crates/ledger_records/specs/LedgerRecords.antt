@@ -38,6 +38,9 @@ abbrev pub outcome_record : Ledgers → ℕ → ℕ → Option StoredOutcome
 outcome_record l desk number = get_by outcome_key l.outcomes (pos (id_of desk number))
 
 -- the record of a desk of which jobs are forgotten
+abbrev pub is_row_of : ℕ → StoredDesk → Bool
+is_row_of desk d = d.desk == desk
+
 abbrev pub desk_record : Ledgers → ℕ → Option StoredDesk
 desk_record l desk = get_by desk_key l.desks (pos desk)
 

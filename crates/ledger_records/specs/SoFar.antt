@@ -10,13 +10,18 @@ use Rattle.desk_journal.specs.Changes.{program_bytes}
 use Rattle.desk_journal.specs.Encodings.{list_bytes}
 use Rattle.job_core.specs.Admission.{IsAdmittedFrom}
 use Rattle.job_core.specs.declared.admission.ProgramBytes.{ProgramBytes}
+use Rattle.sessions.specs.JobKeys.{noted}
+use Rattle.sessions.specs.declared.job_key.KeyedJob.{KeyedJob}
 use Rattle.desk_records.specs.Columns.{id_of, most_numbers}
 use Rattle.desk_records.specs.Made.{outcome_key, stored_job_key}
+use Rattle.desk_records.specs.declared.stored_desk.StoredDesk.{StoredDesk}
 use Rattle.desk_records.specs.declared.stored_job.StoredJob.{StoredJob}
+use Rattle.desk_records.specs.declared.stored_key.StoredKey.{StoredKey}
 use Rattle.desk_records.specs.declared.stored_outcome.StoredOutcome.{StoredOutcome}
 use Rattle.desk_records.specs.declared.stored_tenant.StoredTenant.{StoredTenant}
-use Rattle.ledger_records.specs.LedgerRecords.{CameTo, HasFewerJobs, StandsAs, is_tenant, spent_of}
-use Rattle.ledger_records.specs.declared.restored_desk.RestoredJob.{RestoredJob}
+use Rattle.ledger_records.specs.DeskRecords.{keys_of}
+use Rattle.ledger_records.specs.LedgerRecords.{CameTo, HasFewerJobs, HasFewerKeyed, StandsAs, is_row_of, is_tenant, spent_of}
+use Rattle.ledger_records.specs.declared.restored_job.RestoredJob.{RestoredJob}
 
 -- the ledger has the accounts of these tenants, and no job
 pub record HasAccounts (desk : ℕ) (tenants : List StoredTenant) (ledger : Ledger) : Type 0 where
@@ -125,3 +130,30 @@ pub record IsSoFar (desk : ℕ) (tenants : List StoredTenant) (jobs : List Store
   pub stands : StandsSoFar desk tenants jobs outcomes ledger
   pub ends : EndsSoFar desk jobs ledger
   pub are : AreOpenJobs desk jobs outcomes open_jobs
+
+-- so many forgotten jobs come behind the others as the desk's own row tells
+pub record TellsMore (desk : ℕ) (desks : List StoredDesk) (old new : Ledger) : Type 0 where
+  pub count : ℕ
+  pub adds : AddsGone old count new
+  pub row : StoredDesk
+  pub is : find (is_row_of desk) desks ≡ Some row
+  pub taken : row.taken ≡ length old.jobs + count
+  pub few : row.taken < most_numbers
+
+-- the same, unless the row tells of no more jobs than there are
+abbrev pub EndsTaken : ℕ → List StoredDesk → Ledger → Ledger → Type 0
+EndsTaken desk desks old new = (new ≡ old) ⊎ TellsMore desk desks old new
+
+-- a desk that took so many jobs remembers the key of a row, if it is one of the desk
+abbrev pub NotesRow : ℕ → ℕ → StoredKey → List KeyedJob → List KeyedJob → Type 0
+NotesRow desk count row old new =
+    ((row.desk ≢ desk) × (new ≡ old))
+    ⊎ ((row.desk ≡ desk) × (row.number ≤ count) × (length old < 1000)
+    × (new ≡ noted old row.number row.key))
+
+-- the desk remembers the keys of these rows
+pub record AreKeysSoFar (desk count : ℕ) (rows : List StoredKey) (keys : List KeyedJob) :
+    Type 0 where
+  pub are : keys ≡ keys_of desk rows
+  pub few : length keys ≤ 1000
+  pub fewer : All (HasFewerKeyed desk count) rows

@@ -12,7 +12,7 @@ ghost use Rattle.desk_journal.specs.Encodings.{list_bytes};
 ghost use Rattle.ledger_records.specs.LedgerRecords.{CameTo};
 ghost use Rattle.ledger_records.specs.SoFar.{GoesPastRow, HasAccounts, IsAdmittedAs, IsSoFar, PutsRow, SplitsOutcome};
 
-use crate::restored_desk::RestoredJob;
+use crate::restored_job::RestoredJob;
 use accounts::{Desk, JobStanding, KeptReport, RestoreFault, SubmitFault};
 use credit_book::{Report, TaskEnd};
 use desk_journal::{ReadFault, read_whole};
@@ -24,10 +24,11 @@ use job_core::{AdmitFault, ProgramBytes};
 use sqlite_trees::error::StoreError;
 use std::alloc::Global;
 
-const NO_MEMORY: LoadFault = LoadFault::Store(StoreError::OutOfMemory);
+/// Memory is wanting.
+pub(crate) const NO_MEMORY: LoadFault = LoadFault::Store(StoreError::OutOfMemory);
 
-// Tells a row of a job as damage.
-fn damaged(table: StoreTable, desk: u16, number: u64) -> LoadFault {
+/// Tells a row of a job as damage.
+pub(crate) fn damaged(table: StoreTable, desk: u16, number: u64) -> LoadFault {
     LoadFault::Damaged(table, row_id(desk, number).unwrap_or(0))
 }
 

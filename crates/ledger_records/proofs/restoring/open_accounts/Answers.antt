@@ -16,7 +16,7 @@ loop-row-preserved c =
     let here : slice_index_or rows at row ≡ row = search rules in
     rw (take_more rows at row within)
     (subst (λ (r : StoredTenant). HasAccounts c.args.number (done ++ r ∷ []) c.open_account.new.desk) (sym here)
-      (elim c.in_ok-open_account.ensures [
-        | inl other ↦ subst (λ (ledger : Ledger). HasAccounts c.args.number (done ++ row ∷ []) ledger) (sym other.1) (account_passed c.args.number done row c.loop-row.desk other.0 c.loop-row.invariant)
-        | inr own ↦ account_opened c.args.number done row c.loop-row.desk c.open_account.new.desk own.0 own.1 c.loop-row.invariant
-      ]))
+    (elim c.in_ok-open_account.ensures [
+      | inl other ↦ subst (λ (ledger : Ledger). HasAccounts c.args.number (done ++ row ∷ []) ledger) (sym other.1) (account_passed c.args.number done row c.loop-row.desk other.0 c.loop-row.invariant)
+      | inr own ↦ account_opened c.args.number done row c.loop-row.desk c.open_account.new.desk own.0 own.1 c.loop-row.invariant
+    ]))

@@ -2,7 +2,7 @@ use Rattle.std.proofs.Common.{◌≡◌, ◌∷◌, [], List, ap, arith, length,
 use Rattle.desk_records.specs.declared.stored_job.StoredJob.{StoredJob}
 use Rattle.desk_records.specs.declared.stored_tenant.StoredTenant.{StoredTenant}
 use Rattle.ledger_records.specs.SoFar.{HasAccounts, IsSoFar}
-use Rattle.ledger_records.specs.declared.restored_desk.RestoredJob.{RestoredJob}
+use Rattle.ledger_records.specs.declared.restored_job.RestoredJob.{RestoredJob}
 use Rattle.ledger_records.proofs.SoFarLemmas.{row_more, rows_done, so_far_begun}
 use Rattle.ledger_records.proofs.restoring.restore_ledger.Goals as goal
 
