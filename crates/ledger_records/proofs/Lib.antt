@@ -7,3 +7,4 @@ pub mod Alike
 pub mod Chain
 pub mod SoFarLemmas
 pub mod DeskLemmas
+pub mod OrderLemmas

@@ -2,3 +2,4 @@ pub mod LedgerRecords
 pub mod DeskRecords
 pub mod ChangedRows
 pub mod SoFar
+pub mod RestoredDesks

@@ -8,8 +8,10 @@ pub use laws::{records_follow_desks, restored_desks_are_alike};
 
 // a restart
 mod restored_desk;
+mod restored_desks;
 mod restored_job;
 mod restoring;
 
 pub use restored_desk::{RestoredDesk, restore_desk};
+pub use restored_desks::restore_desks;
 pub use restored_job::RestoredJob;

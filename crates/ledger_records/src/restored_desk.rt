@@ -14,8 +14,8 @@ use desk_store::{LoadFault, StoreTable};
 use sessions::{JobKey, KeyedJobs};
 use std::alloc::Global;
 
-// A desk numbers its jobs below this.
-const MOST_NUMBERS: u64 = 100_000_000_000_000;
+/// A desk numbers its jobs below this.
+pub(crate) const MOST_NUMBERS: u64 = 100_000_000_000_000;
 
 /// A desk, the keyed jobs that it remembers, and its open jobs in the order of their numbers.
 #[derive(Drop)]
