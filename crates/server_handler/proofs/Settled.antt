@@ -1,11 +1,10 @@
 -- What a desk has of a job that is over is what it came to.
 use Rattle.std.proofs.Common.{◌≡◌, ◌+◌, ◌-◌, ℕ, zero, suc, List, [], ◌∷◌, slice_get, slice_set, nat_eq, if◌then◌else◌, Bool, true, false, Option, None, Some, Result, Ok, Err, refl, sym, ap, subst, ◌∙◌}
 use Rattle.credit_book.specs.declared.book.Report.{Report}
-use Rattle.accounts.specs.declared.fault.DeskFault.{DeskFault}
 use Rattle.accounts.specs.declared.fault.DeskFault.TheVariants as fault
 use Rattle.accounts.specs.declared.jobs.JobEntry.{JobEntry}
 use Rattle.accounts.specs.declared.jobs.JobStanding.{JobStanding}
-use Rattle.accounts.specs.declared.jobs.JobStanding.TheVariants.{Open, Reported, Failed}
+use Rattle.accounts.specs.declared.jobs.JobStanding.TheVariants.{Reported, Failed}
 use Rattle.accounts.specs.Jobs.{job_at, report_of, settled}
 use Rattle.accounts.specs.Ledgers.{Finishes, HasJobs, Ledger, report_at, report_in}
 

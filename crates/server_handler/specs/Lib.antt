@@ -1,1 +1,5 @@
 pub mod Recording
+pub mod DeskAnswers
+pub mod Serving
+pub mod Naming
+pub mod Shared

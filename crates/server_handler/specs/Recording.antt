@@ -7,7 +7,7 @@ use Rattle.job_core.specs.Admission.{IsAdmittedFrom, RefusesJob}
 use Rattle.job_core.specs.declared.admission.AdmitFault.{AdmitFault}
 use Rattle.job_core.specs.declared.admission.ProgramBytes.{ProgramBytes}
 use Rattle.sessions.specs.declared.job_key.KeyedJob.{KeyedJob}
-use Rattle.server_state.specs.Changing.{MakesAt, last_keyed}
+use Rattle.server_state.specs.Changing.{MakesAt, SpentNothing, last_keyed}
 use Rattle.server_state.specs.declared.change.Change.{Change}
 
 -- the keyed job of a desk's last one, where a desk took a job, and else none
@@ -18,7 +18,8 @@ keyed_taken key old new =
 -- the change is this grant, this job that was taken, this end, or this forgetting, at every ledger
 abbrev pub IsGrant : ℕ → Change → List ℕ → ℕ → Type 0
 IsGrant place c name amount =
-    (old new : Ledger) → GrantsMore old name amount new → MakesAt place c old new []
+    (old new : Ledger) → GrantsMore old name amount new → SpentNothing old name
+    → MakesAt place c old new []
 
 abbrev pub IsTaking : ℕ → Change → Option (List ℕ) → List ℕ → List ProgramBytes → ℕ → List ℕ
     → Type 0
@@ -26,8 +27,8 @@ IsTaking place c key name programs credit buffer =
     (old new : Ledger) (job : AdmittedJob) → Takes old name credit new
     → IsAdmittedFrom programs credit buffer job → MakesAt place c old new (last_keyed key new)
 
-abbrev pub IsEnd : ℕ → Change → ℕ → Result Report ℕ → Type 0
-IsEnd place c number outcome =
+abbrev pub IsEndChange : ℕ → Change → ℕ → Result Report ℕ → Type 0
+IsEndChange place c number outcome =
     (old new : Ledger) → Finishes old number outcome new → MakesAt place c old new []
 
 abbrev pub IsForgetting : ℕ → Change → ℕ → Type 0

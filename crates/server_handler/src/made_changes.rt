@@ -1,13 +1,13 @@
 //! The changes of a desk, as they are added.
 
-ghost use Rattle.std.specs.Prelude.{◌≡◌, ℕ, [], Err, IfOk, IfSome, List, Result, option_map, string_bytes};
+ghost use Rattle.std.specs.Prelude.{◌≡◌, ◌⊎◌, ℕ, [], Err, IfOk, IfSome, List, Result, Some, is_ok, option_map, string_bytes, true};
 ghost use Rattle.accounts.specs.Ledgers.{Finishes, Ledger};
 ghost use Rattle.credit_book.specs.declared.book.Report.{Report};
 ghost use Rattle.sessions.specs.declared.job_key.KeyedJob.{KeyedJob};
 ghost use Rattle.server_state.specs.Changing.{MakesAt, Records};
-ghost use Rattle.server_handler.specs.Recording.{IsEnd, IsForgetting, IsGrant, IsTaking};
+ghost use Rattle.server_handler.specs.Recording.{IsEndChange, IsForgetting, IsGrant, IsTaking};
 
-use accounts::{Desk, DeskFault};
+use accounts::{Account, Desk, DeskFault};
 use job_core::ProgramBytes;
 use refusal::NoMemory;
 use server_state::{Change, Changes, JobId};
@@ -46,6 +46,22 @@ pub fn granted_change<C: Changes>(
             amount,
         }),
         Err(_) => None,
+    }
+}
+
+/// The change of a grant, where its tenant had an account before, or has spent nothing; and none
+/// otherwise.
+pub fn sound_grant(
+    before: Result<Account, DeskFault>,
+    account: Account,
+    made: Option<Change>,
+) -> Option<Change>
+    ensures { IfSome result (λ c. (made ≡ Some c)
+        × ((is_ok before ≡ true) ⊎ (account.spent ≡ 0))) }
+{
+    match before {
+        Ok(_) => made,
+        Err(_) => { if account.spent == 0 { made } else { None } }
     }
 }
 
@@ -115,7 +131,7 @@ pub fn settled_change<C: Changes>(
 
 /// The change of a job whose start was refused.
 pub fn failed_change(id: JobId, code: u8) -> Change
-    ensures { IsEnd id.desk result id.number (Err code) }
+    ensures { IsEndChange id.desk result id.number (Err code) }
 {
     Change::Settled {
         id,

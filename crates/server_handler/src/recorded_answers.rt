@@ -9,7 +9,7 @@ ghost use Rattle.streams.specs.Refusing.{TellsRefusal};
 ghost use Rattle.server_state.specs.Changing.{Records};
 ghost use Rattle.server_handler.specs.Recording.{keyed_taken};
 
-use crate::made_changes::{add_made, forgotten_change, granted_change};
+use crate::made_changes::{add_made, forgotten_change, granted_change, sound_grant};
 use crate::recorded_submit::{answer_admitted_recorded, answer_submit_recorded};
 use accounts::{Account, Desk, DeskFault, KeepLimits};
 use refusal::NoMemory;
@@ -21,7 +21,7 @@ use streams::{
     answer_result, answer_status, refused,
 };
 
-/// Grants credit as the desk does, and records that.
+/// Grants credit as the desk does, and adds that.
 pub fn grant_recorded<C: Changes>(
     alloc: Global,
     desk: &mut Desk,
@@ -39,9 +39,11 @@ pub fn grant_recorded<C: Changes>(
     ensures unchanged { OnErr result (desk.new ≡ desk.old) }
     ensures records { Records C.Changes place changes.old changes.new desk.old desk.new [] }
 {
+    let before = desk.account(tenant);
     let made = granted_change(alloc, changes, place, tenant, amount);
     match desk.grant(alloc, tenant, amount) {
         Ok(account) => {
+            let made = sound_grant(before, account, made);
             add_made(changes, place, made);
             Ok(account)
         }
@@ -49,7 +51,7 @@ pub fn grant_recorded<C: Changes>(
     }
 }
 
-// Grants and records, and tells the account as it is then.
+// Grants, adds that, and tells the account as it is then.
 fn answer_grant_recorded<C: Changes>(
     alloc: Global,
     desk: &mut Desk,
@@ -67,7 +69,7 @@ fn answer_grant_recorded<C: Changes>(
     PendingReply::of_reply(alloc, &account_reply(account))
 }
 
-// Carries a request out and records what it changes. Gives the frame of its reply, and why a job
+// Carries a request out and adds what it changes. Gives the frame of its reply, and why a job
 // that was asked for doesn't run.
 fn carry_out_recorded<N: Runner, C: Changes>(
     alloc: Global,
@@ -107,8 +109,8 @@ fn carry_out_recorded<N: Runner, C: Changes>(
     }
 }
 
-/// Carries a request out and records what it changes, or tells the number of its refusal. A job that
-/// is taken is recorded with the key that it came by. Ends of jobs are passed by the caller.
+/// Carries a request out and adds what it changes, or tells the number of its refusal. A job that
+/// is taken is added with the key that it came by. Ends of jobs are passed by the caller.
 pub fn reply_recorded<N: Runner, C: Changes>(
     alloc: Global,
     desk: &mut Desk,

@@ -1,4 +1,4 @@
-//! Ends of jobs, noted by the desk and recorded.
+//! Ends of jobs, noted by the desk and added.
 
 ghost use Rattle.std.specs.Prelude.{ℕ, []};
 ghost use Rattle.accounts.specs.Ledgers.{Ledger};
@@ -34,11 +34,7 @@ pub fn end_job<C: Changes>(
 }
 
 /// Adds the end of a job whose start was refused.
-pub fn note_start<C: Changes>(
-    changes: &mut C,
-    place: u16,
-    refusal: Option<SubmitRefusal>,
-)
+pub fn note_start<C: Changes>(changes: &mut C, place: u16, refusal: Option<SubmitRefusal>)
     ensures { (old new : Ledger) (number : ℕ) → TellsStart old number refusal new
         → Records C.Changes place changes.old changes.new old new [] }
 {

@@ -1,6 +1,6 @@
-//! A job that is taken, recorded and started.
+//! A job that is taken and started, with the changes that this makes.
 
-ghost use Rattle.std.specs.Prelude.{◌≡◌, ℕ, List, [], IfErr, IfOk, MatchResult, Ok, OnErr, OnOk, Option, length, option_map};
+ghost use Rattle.std.specs.Prelude.{◌≡◌, ℕ, List, [], IfErr, IfOk, MatchResult, None, Ok, OnErr, OnOk, Option, false, length, option_map};
 ghost use Rattle.accounts.specs.Ahead.{IsAdmissionOf};
 ghost use Rattle.accounts.specs.Ledgers.{Ledger, RefusesSubmit, Takes};
 ghost use Rattle.job_core.specs.Admission.{IsAdmittedFrom};
@@ -21,8 +21,8 @@ use sessions::JobKey;
 use std::alloc::Global;
 use streams::{AdmittedSubmit, PendingReply, Runner, SubmitParts, SubmitRefusal, answer_taken};
 
-// The record of a job that was admitted, and room for it in the queue. Want of memory refuses the
-// job.
+// The change of a job that was admitted, and room for it; none where changes are not kept. Want of
+// memory refuses the job.
 fn record_ahead<C: Changes>(
     alloc: Global,
     changes: &mut C,
@@ -38,6 +38,7 @@ fn record_ahead<C: Changes>(
         → IfOk copy (λ bytes. bytes.items ≡ buffer)
         → IsRecordedAdmission place (option_map (λ k. k.now) key.entry) tenant.now programs.items credit
         buffer result }
+    ensures kept { IfOk result (λ made. made.1 ≡ None → C.sound changes.new ≡ false) }
     ensures records { (desk : Ledger)
         → Records C.Changes place changes.old changes.new desk desk [] }
 {
@@ -62,7 +63,7 @@ fn record_ahead<C: Changes>(
     }
 }
 
-// Takes a job as the desk does, and records that.
+// Takes a job as the desk does, and adds that.
 fn take_recorded<C: Changes>(
     alloc: Global,
     desk: &mut Desk,
@@ -99,7 +100,8 @@ fn take_recorded<C: Changes>(
     }
 }
 
-// Starts a job that was taken and recorded, or tells why it wasn't. Records a refused start.
+// Starts a job that was taken, or tells why it was not. Adds the end of a job whose start was
+// refused.
 fn start_recorded<N: Runner, C: Changes>(
     alloc: Global,
     desk: &mut Desk,
@@ -129,8 +131,8 @@ fn start_recorded<N: Runner, C: Changes>(
     }
 }
 
-/// Takes a job that was admitted or refused ahead, records it with the key that it came by, starts
-/// it, and tells its number. Want of memory for the record refuses it by 99, behind 74 and 75.
+/// Takes a job that was admitted or refused ahead, adds that with the key that it came by, starts
+/// it, and tells its number. Want of memory for the change refuses it by 99, behind 74 and 75.
 pub fn answer_admitted_recorded<N: Runner, C: Changes>(
     alloc: Global,
     desk: &mut Desk,
@@ -157,7 +159,9 @@ pub fn answer_admitted_recorded<N: Runner, C: Changes>(
         ..
     } = submit.into_parts();
     let name = tenant.as_str();
-    let admission = record_ahead(alloc, changes, place, key, name, programs, credit, admitted, copy);
+    let admission = record_ahead(
+        alloc, changes, place, key, name, programs, credit, admitted, copy,
+    );
     let taken = take_recorded(alloc, desk, changes, place, name, credit, admission);
     start_recorded(alloc, desk, runner, changes, place, taken)
 }

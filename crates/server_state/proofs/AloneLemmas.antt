@@ -1,16 +1,15 @@
 -- After every history, a desk's part is a history of a server that has this desk alone.
-use Rattle.std.proofs.Common.{◌≡◌, ◌≢◌, ◌⊎◌, ◌≤◌, ◌==◌, ℕ, false, List, [], ◌∷◌, ◌++◌, length, slice_get, Option, Some, None, Result, Ok, Err, refl, sym, ap, subst, ◌∙◌, inl, inr, arith}
-use Rattle.job_core.specs.Admitted.{AdmittedJob}
+use Rattle.std.proofs.Common.{◌≡◌, ◌≢◌, ◌⊎◌, ◌≤◌, ◌==◌, ℕ, false, List, [], ◌∷◌, ◌++◌, length, slice_get, Some, Result, Ok, Err, refl, sym, ap, subst, ◌∙◌, inl, inr, arith}
 use Rattle.credit_book.specs.declared.book.Report.{Report}
 use Rattle.accounts.specs.declared.keep_limits.KeepLimits.{KeepLimits}
 use Rattle.server_state.specs.declared.access.Access.{Access}
 use Rattle.server_state.specs.declared.job_id.JobId.{JobId}
-use Rattle.server_state.specs.States.{DeskState, ServerState, JobsSteps, id_at, starting_to, with_jobs}
+use Rattle.server_state.specs.States.{DeskState, ServerState, JobsSteps, starting_to, with_jobs}
 use Rattle.server_state.specs.Queries.{Query, Destination, desk_at, server_itself, refused_by, goes, desk_query}
-use Rattle.server_state.specs.Desks.{Replies}
-use Rattle.server_state.specs.Answering.{Answers, AnswersAt, Begins, ChangesAt, Ends, NotesEnd, waiting_behind}
-use Rattle.server_state.specs.Histories.{Event, was_asked, has_ended, Happens, none_yet, one_asked, one_ended, one_begun, none_ended}
-use Rattle.server_state.specs.Alone.{Others, no_step, one_start, one_look, one_end, no_end, alone, one_desk, part_of, is_of, is_desk_at, job_at_home, waiting_of, HasServerAlone}
+use Rattle.server_state.specs.Desks.{DeskReplies}
+use Rattle.server_state.specs.Answering.{ServerAnswers, AnswersAt, BeginsWaiting, ChangesAt, EndsJob, NotesEnd, waiting_behind}
+use Rattle.server_state.specs.Histories.{ServerEvent, was_asked, has_ended, Happens, none_yet, one_asked, one_ended, one_begun, none_ended}
+use Rattle.server_state.specs.Alone.{Others, no_step, one_start, one_end, no_end, seen_by_desk, one_desk, part_of, is_of, is_desk_at, job_at_home, waiting_of, HasServerAlone}
 use Rattle.server_state.proofs.DeskLemmas.{replies_alone, replies_apart}
 use Rattle.server_state.proofs.HomeLemmas.{goes_home, home_of, query_home}
 use Rattle.server_state.proofs.ListLemmas.{same_or_not, set_here, set_apart, some_same, within}
@@ -25,17 +24,17 @@ module _ {R : Type 0} (m : JobsSteps R) (place : ℕ) (first : ServerState R) (b
   start = one_desk first.keep begun (waiting_of place first.waiting) first.jobs
 
   -- the desk's part so far, and the steps for others since its last event
-  record Part (events : List Event) (s : ServerState R) : Type 0 where
+  record Part (events : List ServerEvent) (s : ServerState R) : Type 0 where
     named : s.names ≡ first.names
     kept : s.keep ≡ first.keep
     left : R
     desk : DeskState
-    happens : Happens (alone m place) start (part_of first.names place events) (alone_at desk s left)
+    happens : Happens (seen_by_desk m place) start (part_of first.names place events) (alone_at desk s left)
     at : slice_get s.desks place ≡ Some desk
     others : Others m place left s.jobs
 
   -- an event of another desk, or of none
-  elsewhere : (events : List Event) (s : ServerState R) (e : Event) (t : ServerState R) (was : Part events s) → is_of first.names place e ≡ false → t.names ≡ s.names → t.keep ≡ s.keep → t.waiting ≡ s.waiting
+  elsewhere : (events : List ServerEvent) (s : ServerState R) (e : ServerEvent) (t : ServerState R) (was : Part events s) → is_of first.names place e ≡ false → t.names ≡ s.names → t.keep ≡ s.keep → t.waiting ≡ s.waiting
       → slice_get t.desks place ≡ Some was.desk → Others m place was.left t.jobs → Part (events ++ e ∷ []) t
   unfolding alone_at
   elsewhere events s e t was is names keep waiting there others = record {
@@ -43,8 +42,8 @@ module _ {R : Type 0} (m : JobsSteps R) (place : ℕ) (first : ServerState R) (b
     kept = keep ∙ was.kept;
     left = was.left;
     desk = was.desk;
-    happens = subst (λ w. Happens (alone m place) start (part_of first.names place (events ++ e ∷ [])) (one_desk first.keep was.desk (waiting_of place w) was.left)) (sym waiting)
-        (subst (λ l. Happens (alone m place) start l (one_desk first.keep was.desk (waiting_of place s.waiting) was.left)) (sym (part_elsewhere first.names place events e is)) was.happens);
+    happens = subst (λ w. Happens (seen_by_desk m place) start (part_of first.names place (events ++ e ∷ [])) (one_desk first.keep was.desk (waiting_of place w) was.left)) (sym waiting)
+        (subst (λ l. Happens (seen_by_desk m place) start l (one_desk first.keep was.desk (waiting_of place s.waiting) was.left)) (sym (part_elsewhere first.names place events e is)) was.happens);
     at = there;
     others = others;
   }
@@ -74,7 +73,7 @@ module _ {R : Type 0} (m : JobsSteps R) (place : ℕ) (first : ServerState R) (b
 
   -- ---- the end of a job
 
-  module _ (events : List Event) (s : ServerState R) (id : JobId) (outcome : Result Report ℕ) (t : ServerState R) (end : Ends m s id outcome t) (was : Part events s) where
+  module _ (events : List ServerEvent) (s : ServerState R) (id : JobId) (outcome : Result Report ℕ) (t : ServerState R) (end : EndsJob m s id outcome t) (was : Part events s) where
     notes : DeskState → R → DeskState → R → Type 0
     notes d r e q = NotesEnd id.number outcome d e
 
@@ -86,8 +85,8 @@ module _ {R : Type 0} (m : JobsSteps R) (place : ℕ) (first : ServerState R) (b
       kept = keep ∙ was.kept;
       left = t.jobs;
       desk = n.0;
-      happens = subst (λ w. Happens (alone m place) start (part_of first.names place (events ++ has_ended id outcome ∷ [])) (one_desk first.keep n.0 (waiting_of place w) t.jobs)) (sym waiting)
-          (subst (λ l. Happens (alone m place) start l (one_desk first.keep n.0 (waiting_of place s.waiting) t.jobs))
+      happens = subst (λ w. Happens (seen_by_desk m place) start (part_of first.names place (events ++ has_ended id outcome ∷ [])) (one_desk first.keep n.0 (waiting_of place w) t.jobs)) (sym waiting)
+          (subst (λ l. Happens (seen_by_desk m place) start l (one_desk first.keep n.0 (waiting_of place s.waiting) t.jobs))
           (sym (part_here first.names place events (has_ended id outcome) (ap (λ (d : ℕ). d == place) (sym same) ∙ this_place place)))
           (one_ended (part_of first.names place events) (alone_at was.desk s was.left) (record id { desk = 0 }) outcome (one_desk first.keep n.0 (waiting_of place s.waiting) t.jobs) was.happens (record {
             takes = (s.jobs, was.others, subst (λ (d : ℕ). m.takes s.jobs (Some (record { desk = d; number = id.number }, outcome)) t.jobs) (sym same) end.takes);
@@ -116,8 +115,8 @@ module _ {R : Type 0} (m : JobsSteps R) (place : ℕ) (first : ServerState R) (b
 
   -- ---- the start of a job that waited
 
-  module _ (events : List Event) (s t : ServerState R) (b : Begins m s t) (was : Part events s) where
-    behind_here : (started : Result (Unit {0}) ℕ) → b.job.0.desk ≡ place → waiting_of place (waiting_behind m b.job started b.others) ≡ waiting_behind (alone m place) (job_at_home b.job) started (waiting_of place b.others)
+  module _ (events : List ServerEvent) (s t : ServerState R) (b : BeginsWaiting m s t) (was : Part events s) where
+    behind_here : (started : Result (Unit {0}) ℕ) → b.job.0.desk ≡ place → waiting_of place (waiting_behind m b.job started b.others) ≡ waiting_behind (seen_by_desk m place) (job_at_home b.job) started (waiting_of place b.others)
     behind_here (Ok started) same = refl
     behind_here (Err code) same = waiting_here place b.others b.job same
 
@@ -131,7 +130,7 @@ module _ {R : Type 0} (m : JobsSteps R) (place : ℕ) (first : ServerState R) (b
     same_desks : slice_get t.desks place ≡ Some was.desk
     same_desks = ap (λ (x : ServerState R). slice_get x.desks place) b.is ∙ was.at
 
-    begun_here : b.job.0.desk ≡ place → Happens (alone m place) start (part_of first.names place events) (alone_at was.desk t t.jobs)
+    begun_here : b.job.0.desk ≡ place → Happens (seen_by_desk m place) start (part_of first.names place events) (alone_at was.desk t t.jobs)
     unfolding alone_at
     begun_here same =
         let goes_on = ap (waiting_of place) waiting_then ∙ behind_here b.started same in
@@ -161,7 +160,7 @@ module _ {R : Type 0} (m : JobsSteps R) (place : ℕ) (first : ServerState R) (b
         kept = ap (λ (x : ServerState R). x.keep) b.is ∙ was.kept;
         left = was.left;
         desk = was.desk;
-        happens = subst (λ w. Happens (alone m place) start (part_of first.names place events) (one_desk first.keep was.desk w was.left))
+        happens = subst (λ w. Happens (seen_by_desk m place) start (part_of first.names place events) (one_desk first.keep was.desk w was.left))
             (ap (waiting_of place) b.was ∙ first_elsewhere place b.job b.others apart ∙ sym (behind_elsewhere b.started apart) ∙ ap (waiting_of place) (sym waiting_then)) was.happens;
         at = same_desks;
         others = one_start s.jobs t.jobs b.job.0 b.job.1 b.started was.others apart b.starts;
@@ -170,12 +169,12 @@ module _ {R : Type 0} (m : JobsSteps R) (place : ℕ) (first : ServerState R) (b
 
   -- ---- an answer
 
-  module _ (events : List Event) (s : ServerState R) (connection : ℕ) (access : Access) (query : Query) (frame : List ℕ) (started : Result (Unit {0}) ℕ) (t : ServerState R) (was : Part events s) where
+  module _ (events : List ServerEvent) (s : ServerState R) (connection : ℕ) (access : Access) (query : Query) (frame : List ℕ) (started : Result (Unit {0}) ℕ) (t : ServerState R) (was : Part events s) where
     own_query : Query
     own_query = desk_query first.names access query
 
     replies_at : ℕ → DeskState → R → DeskState → R → Type 0
-    replies_at k d r e q = Replies (starting_to started m) k first.keep d r (desk_query first.names access query) frame e q
+    replies_at k d r e q = DeskReplies (starting_to started m) k first.keep d r (desk_query first.names access query) frame e q
 
     answered_here : goes first.names access query ≡ desk_at place → t.names ≡ s.names → t.keep ≡ s.keep → t.waiting ≡ s.waiting → (e : DeskState) × replies_at place was.desk s.jobs e t.jobs × (slice_get t.desks place ≡ Some e)
         → Part (events ++ was_asked connection access query frame started ∷ []) t
@@ -183,20 +182,20 @@ module _ {R : Type 0} (m : JobsSteps R) (place : ℕ) (first : ServerState R) (b
     answered_here is names keep waiting n =
         let a = replies_alone m place started first.keep was.desk was.left s.jobs (desk_query first.names access query) frame n.0 t.jobs was.others n.1 in
         let next = one_desk first.keep n.0 (waiting_of place s.waiting) a.0 in
-        let at_one : AnswersAt (starting_to started (alone m place)) (desk_at 0) (alone_at was.desk s was.left) (desk_query first.names access query) frame next =
+        let at_one : AnswersAt (starting_to started (seen_by_desk m place)) (desk_at 0) (alone_at was.desk s was.left) (desk_query first.names access query) frame next =
         record { before = was.desk; was = refl; after = n.0; changed = a.1; is = refl } in
-        let routed = subst (λ (to : Destination). AnswersAt (starting_to started (alone m place)) to (alone_at was.desk s was.left) (desk_query first.names access query) frame next)
+        let routed = subst (λ (to : Destination). AnswersAt (starting_to started (seen_by_desk m place)) to (alone_at was.desk s was.left) (desk_query first.names access query) frame next)
         (sym (goes_home first.names place access query is)) at_one in
-        let answers : Answers (starting_to started (alone m place)) (alone_at was.desk s was.left) (home_of access) (desk_query first.names access query) frame next =
-        subst (λ (q : Query). AnswersAt (starting_to started (alone m place)) (goes [] (home_of access) (desk_query first.names access query)) (alone_at was.desk s was.left) q frame next)
+        let answers : ServerAnswers (starting_to started (seen_by_desk m place)) (alone_at was.desk s was.left) (home_of access) (desk_query first.names access query) frame next =
+        subst (λ (q : Query). AnswersAt (starting_to started (seen_by_desk m place)) (goes [] (home_of access) (desk_query first.names access query)) (alone_at was.desk s was.left) q frame next)
         (sym (query_home first.names access query)) routed in
         record {
           named = names ∙ was.named;
           kept = keep ∙ was.kept;
           left = a.0;
           desk = n.0;
-          happens = subst (λ w. Happens (alone m place) start (part_of first.names place (events ++ was_asked connection access query frame started ∷ [])) (one_desk first.keep n.0 (waiting_of place w) a.0)) (sym waiting)
-              (subst (λ l. Happens (alone m place) start l next)
+          happens = subst (λ w. Happens (seen_by_desk m place) start (part_of first.names place (events ++ was_asked connection access query frame started ∷ [])) (one_desk first.keep n.0 (waiting_of place w) a.0)) (sym waiting)
+              (subst (λ l. Happens (seen_by_desk m place) start l next)
               (sym (part_here first.names place events (was_asked connection access query frame started) (ap (is_desk_at place) is ∙ this_place place)))
               (one_asked (part_of first.names place events) (alone_at was.desk s was.left) connection (home_of access) (desk_query first.names access query) frame started next was.happens answers));
           at = n.2;
@@ -226,13 +225,13 @@ module _ {R : Type 0} (m : JobsSteps R) (place : ℕ) (first : ServerState R) (b
         → AnswersAt (starting_to started m) to s (desk_query first.names access query) frame t → Part (events ++ was_asked connection access query frame started ∷ []) t
     unfolding replies_at
     after_answer (desk_at k) is keep kept own a =
-        at_desk k is (subst (λ (l : KeepLimits). ChangesAt k (λ d r e q. Replies (starting_to started m) k l d r (desk_query first.names access query) frame e q) s t) (own ∙ kept) a)
+        at_desk k is (subst (λ (l : KeepLimits). ChangesAt k (λ d r e q. DeskReplies (starting_to started m) k l d r (desk_query first.names access query) frame e q) s t) (own ∙ kept) a)
     after_answer server_itself is keep kept own a = nothing_changed (ap (is_desk_at place) is) a.1
     after_answer (refused_by code) is keep kept own a = nothing_changed (ap (is_desk_at place) is) a.1
 
   -- ---- whole histories
 
-  part : slice_get first.desks place ≡ Some begun → (events : List Event) (s : ServerState R) → Happens m first events s → Part events s
+  part : slice_get first.desks place ≡ Some begun → (events : List ServerEvent) (s : ServerState R) → Happens m first events s → Part events s
   unfolding alone_at start
   part there _ s none_yet = record { named = refl; kept = refl; left = first.jobs; desk = begun; happens = none_yet; at = there; others = no_step }
   part there _ t (one_asked events s connection access query frame started u before a) =
@@ -245,13 +244,13 @@ module _ {R : Type 0} (m : JobsSteps R) (place : ℕ) (first : ServerState R) (b
       let was = part there events s before in
       record { named = was.named; kept = was.kept; left = was.left; desk = was.desk; happens = was.happens; at = was.at; others = no_end s.jobs r was.others none }
 
-  pub each_alone : slice_get first.desks place ≡ Some begun → (events : List Event) (s : ServerState R) (desk : DeskState) → Happens m first events s → slice_get s.desks place ≡ Some desk
+  pub each_alone : slice_get first.desks place ≡ Some begun → (events : List ServerEvent) (s : ServerState R) (desk : DeskState) → Happens m first events s → slice_get s.desks place ≡ Some desk
       → HasServerAlone m place first begun events s desk
   unfolding alone_at start
   each_alone there events s desk happens at =
       let p = part there events s happens in
       record {
         left = p.left;
-        happens = subst (λ (d : DeskState). Happens (alone m place) (one_desk first.keep begun (waiting_of place first.waiting) first.jobs) (part_of first.names place events)
+        happens = subst (λ (d : DeskState). Happens (seen_by_desk m place) (one_desk first.keep begun (waiting_of place first.waiting) first.jobs) (part_of first.names place events)
             (one_desk first.keep d (waiting_of place s.waiting) p.left)) (some_same (slice_get s.desks place) p.desk desk p.at at) p.happens;
       }

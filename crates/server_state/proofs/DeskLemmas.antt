@@ -1,8 +1,6 @@
 -- A desk's replies by the runner of all jobs, and by the runner as the desk sees it.
 use Rattle.std.proofs.Common.{◌≡◌, ◌≢◌, ℕ, List, length, Option, Some, None, Result, Ok, Err, refl, sym, subst, inl, inr}
-use Rattle.credit_book.specs.declared.board.Progress.{Progress}
 use Rattle.job_core.specs.declared.admission.ProgramBytes.{ProgramBytes}
-use Rattle.job_core.specs.Admitted.{AdmittedJob}
 use Rattle.accounts.specs.Ledgers.{Ledger}
 use Rattle.accounts.specs.declared.keep_limits.KeepLimits.{KeepLimits}
 use Rattle.serde_json.specs.Data.{Data}
@@ -12,8 +10,8 @@ use Rattle.sessions.specs.Replies.{reply_data}
 use Rattle.streams.specs.Answering as plainly
 use Rattle.server_state.specs.States.{DeskState, JobsSteps, id_at, starting_to}
 use Rattle.server_state.specs.Queries.{Query, plain, keyed, jobs, counts}
-use Rattle.server_state.specs.Desks.{Replies, RepliesByKey, RepliesOrRefuses, RepliesPlainly, looks_at, starts_at}
-use Rattle.server_state.specs.Alone.{Others, no_step, one_start, one_look, alone}
+use Rattle.server_state.specs.Desks.{DeskReplies, RepliesByKey, RepliesOrRefuses, RepliesPlainly, looks_at, starts_at}
+use Rattle.server_state.specs.Alone.{Others, no_step, one_start, one_look, seen_by_desk}
 
 module _ {R : Type 0} (m : JobsSteps R) (place : ℕ) (outcome : Result (Unit {0}) ℕ) where
   -- the runner of all jobs, and as the desk sees it, whose starts come to this
@@ -21,7 +19,7 @@ module _ {R : Type 0} (m : JobsSteps R) (place : ℕ) (outcome : Result (Unit {0
   ours = starting_to outcome m
 
   abbrev seen : JobsSteps R
-  seen = starting_to outcome (alone m place)
+  seen = starting_to outcome (seen_by_desk m place)
 
   same_runner : (left r s : R) → Others m place left r → s ≡ r → Others m place left s
   same_runner left r s others is = subst (Others m place left) (sym is) others
@@ -88,8 +86,8 @@ module _ {R : Type 0} (m : JobsSteps R) (place : ℕ) (outcome : Result (Unit {0
       let a = plainly_alone keep d.ledger left r asked frame e.ledger s others t.0 in (a.0, (a.1, t.1), a.2)
 
   pub replies_alone : (keep : KeepLimits) (d : DeskState) (left r : R) (query : Query) (frame : List ℕ) (e : DeskState) (s : R) → Others m place left r
-      → Replies ours place keep d r query frame e s → (q : R) × Replies seen 0 keep d left query frame e q × Others m place q s
-  unfolding Replies
+      → DeskReplies ours place keep d r query frame e s → (q : R) × DeskReplies seen 0 keep d left query frame e q × Others m place q s
+  unfolding DeskReplies
   replies_alone keep d left r (plain asked) frame e s others t = request_alone keep d left r asked frame e s others t
   replies_alone keep d left r (keyed None asked) frame e s others t = (left, (t.0, t.1, refl), same_runner left r s others t.2)
   replies_alone keep d left r (keyed (Some key) asked) frame e s others t = by_key_alone keep (job_among d.keys key) d left r key asked frame e s others t
@@ -127,8 +125,8 @@ module _ {R : Type 0} (m : JobsSteps R) (place : ℕ) (outcome : Result (Unit {0
     by_key_apart keep None d left r key (Ok asked) frame e s others t = plainly_apart keep d.ledger left r asked frame e.ledger s others t.0
 
     pub replies_apart : (keep : KeepLimits) (d : DeskState) (left r : R) (query : Query) (frame : List ℕ) (e : DeskState) (s : R) → Others m place left r
-        → Replies ours k keep d r query frame e s → Others m place left s
-    unfolding Replies
+        → DeskReplies ours k keep d r query frame e s → Others m place left s
+    unfolding DeskReplies
     replies_apart keep d left r (plain asked) frame e s others t = request_apart keep d left r asked frame e s others t
     replies_apart keep d left r (keyed None asked) frame e s others t = same_runner left r s others t.2
     replies_apart keep d left r (keyed (Some key) asked) frame e s others t = by_key_apart keep (job_among d.keys key) d left r key asked frame e s others t

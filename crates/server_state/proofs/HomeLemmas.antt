@@ -1,8 +1,8 @@
 -- A query that goes to a desk goes to the one desk of the server that has no other.
-use Rattle.std.proofs.Common.{◌≡◌, ℕ, ◌==◌, ◌||◌, Bool, true, false, List, [], if◌then◌else◌, Result, Ok, Err, refl, ap}
+use Rattle.std.proofs.Common.{◌≡◌, ℕ, ◌==◌, Bool, true, false, List, [], if◌then◌else◌, Result, Ok, Err, refl, ap}
 use Rattle.sessions.specs.Grammar.{Asked, JobText, grant, account, submit, status, result}
 use Rattle.server_state.specs.declared.access.Access.{Access}
-use Rattle.server_state.specs.Queries.{Query, plain, keyed, jobs, counts, Destination, desk_at, server_itself, refused_by, goes, desk_query, own_submit, request_goes, tenant_place}
+use Rattle.server_state.specs.Queries.{Query, plain, keyed, jobs, counts, Destination, desk_at, refused_by, goes, desk_query, own_submit, request_goes, tenant_place}
 
 -- the same connection at a server that has no other desk
 abbrev pub home_of : Access → Access

@@ -3,3 +3,10 @@ mod PartLemmas
 mod DeskLemmas
 mod HomeLemmas
 mod AloneLemmas
+mod OneDesk
+mod KeyedLemmas
+mod Traces
+mod AlikeDesks
+mod AlikeReplies
+mod AdmissionLemmas
+mod AlikeHistories

@@ -3,26 +3,26 @@ use Rattle.std.proofs.Common.{◌≡◌, ◌≢◌, ℕ, ◌==◌, Bool, true, f
 use Rattle.std.proofs.lemmas.Bool.Decides.{nat_tests}
 use Rattle.job_core.specs.Admitted.{AdmittedJob}
 use Rattle.server_state.specs.declared.job_id.JobId.{JobId}
-use Rattle.server_state.specs.Histories.{Event}
+use Rattle.server_state.specs.Histories.{ServerEvent}
 use Rattle.server_state.specs.Alone.{is_of, put_if, at_home, part_of, job_at_home, waiting_of}
 
 put_joined : {X : Type 0} (b : Bool) (x : X) (xs ys : List X) → put_if b x (xs ++ ys) ≡ put_if b x xs ++ ys
 put_joined true x xs ys = refl
 put_joined false x xs ys = refl
 
-part_joined : (names : List (List ℕ)) (place : ℕ) (events : List Event) (e : Event) → part_of names place (events ++ e ∷ []) ≡ part_of names place events ++ put_if (is_of names place e) (at_home names e) []
+part_joined : (names : List (List ℕ)) (place : ℕ) (events : List ServerEvent) (e : ServerEvent) → part_of names place (events ++ e ∷ []) ≡ part_of names place events ++ put_if (is_of names place e) (at_home names e) []
 part_joined names place [] e = refl
 part_joined names place (x ∷ events) e =
     ap (put_if (is_of names place x) (at_home names x)) (part_joined names place events e)
-        ∙ put_joined (is_of names place x) (at_home names x) (part_of names place events) (put_if (is_of names place e) (at_home names e) [])
+    ∙ put_joined (is_of names place x) (at_home names x) (part_of names place events) (put_if (is_of names place e) (at_home names e) [])
 
 -- an event of the desk
-pub part_here : (names : List (List ℕ)) (place : ℕ) (events : List Event) (e : Event) → is_of names place e ≡ true
+pub part_here : (names : List (List ℕ)) (place : ℕ) (events : List ServerEvent) (e : ServerEvent) → is_of names place e ≡ true
     → part_of names place (events ++ e ∷ []) ≡ part_of names place events ++ at_home names e ∷ []
 part_here names place events e is = part_joined names place events e ∙ ap (λ b. part_of names place events ++ put_if b (at_home names e) []) is
 
 -- an event of another desk, or of none
-pub part_elsewhere : (names : List (List ℕ)) (place : ℕ) (events : List Event) (e : Event) → is_of names place e ≡ false
+pub part_elsewhere : (names : List (List ℕ)) (place : ℕ) (events : List ServerEvent) (e : ServerEvent) → is_of names place e ≡ false
     → part_of names place (events ++ e ∷ []) ≡ part_of names place events
 part_elsewhere names place events e is =
     part_joined names place events e ∙ ap (λ b. part_of names place events ++ put_if b (at_home names e) []) is ∙ append-nil (part_of names place events)
@@ -39,7 +39,7 @@ waiting_joined : (place : ℕ) (jobs : List (JobId × AdmittedJob)) (job : JobId
 waiting_joined place [] job = refl
 waiting_joined place (x ∷ jobs) job =
     ap (put_if (x.0.desk == place) (job_at_home x)) (waiting_joined place jobs job)
-        ∙ put_joined (x.0.desk == place) (job_at_home x) (waiting_of place jobs) (put_if (job.0.desk == place) (job_at_home job) [])
+    ∙ put_joined (x.0.desk == place) (job_at_home x) (waiting_of place jobs) (put_if (job.0.desk == place) (job_at_home job) [])
 
 pub waiting_here : (place : ℕ) (jobs : List (JobId × AdmittedJob)) (job : JobId × AdmittedJob) → job.0.desk ≡ place → waiting_of place (jobs ++ job ∷ []) ≡ waiting_of place jobs ++ job_at_home job ∷ []
 waiting_here place jobs job is =

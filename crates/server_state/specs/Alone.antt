@@ -1,5 +1,5 @@
 -- A tenant's part of a history, as a history of a server that has its desk alone.
-use Rattle.std.specs.Prelude.{◌≡◌, ◌≢◌, ◌==◌, ℕ, List, [], ◌∷◌, Bool, true, false, Option, Some, None, Result}
+use Rattle.std.specs.Prelude.{◌≢◌, ◌==◌, ℕ, List, [], ◌∷◌, Bool, true, false, Option, Some, None, Result}
 use Rattle.credit_book.specs.declared.book.Report.{Report}
 use Rattle.credit_book.specs.declared.board.Progress.{Progress}
 use Rattle.job_core.specs.Admitted.{AdmittedJob}
@@ -7,7 +7,7 @@ use Rattle.accounts.specs.declared.keep_limits.KeepLimits.{KeepLimits}
 use Rattle.server_state.specs.declared.job_id.JobId.{JobId}
 use Rattle.server_state.specs.States.{DeskState, ServerState, JobsSteps, id_at}
 use Rattle.server_state.specs.Queries.{Destination, desk_at, server_itself, refused_by, goes, desk_query}
-use Rattle.server_state.specs.Histories.{Event, was_asked, has_ended, Happens}
+use Rattle.server_state.specs.Histories.{ServerEvent, was_asked, has_ended, Happens}
 
 -- ---- the events of one desk
 
@@ -17,13 +17,13 @@ is_desk_at place server_itself = false
 is_desk_at place (refused_by code) = false
 
 -- whether the event is one of the desk at the place
-abbrev pub is_of : List (List ℕ) → ℕ → Event → Bool
+abbrev pub is_of : List (List ℕ) → ℕ → ServerEvent → Bool
 is_of names place (was_asked connection access query frame started) =
     is_desk_at place (goes names access query)
 is_of names place (has_ended id outcome) = id.desk == place
 
 -- the same event at a server that has no other desk
-abbrev pub at_home : List (List ℕ) → Event → Event
+abbrev pub at_home : List (List ℕ) → ServerEvent → ServerEvent
 at_home names (was_asked connection access query frame started) =
     was_asked connection (record access { desk = 0 }) (desk_query names access query) frame started
 at_home names (has_ended id outcome) = has_ended (record id { desk = 0 }) outcome
@@ -33,7 +33,7 @@ put_if true x xs = x ∷ xs
 put_if false x xs = xs
 
 -- the events of a desk, in order
-abbrev pub part_of : List (List ℕ) → ℕ → List Event → List Event
+abbrev pub part_of : List (List ℕ) → ℕ → List ServerEvent → List ServerEvent
 part_of names place [] = []
 part_of names place (e ∷ es) =
     put_if (is_of names place e) (at_home names e) (part_of names place es)
@@ -74,8 +74,8 @@ module _ {R : Type 0} (m : JobsSteps R) (place : ℕ) where
   takes_alone r None s = (mid : R) × Others r mid × m.takes mid None s
 
   -- the runner of all jobs, as this desk sees it: between its own steps others may have theirs
-  abbrev pub alone : JobsSteps R
-  alone = record {
+  abbrev pub seen_by_desk : JobsSteps R
+  seen_by_desk = record {
     starts = λ r id job started s. (mid : R) × Others r mid
         × m.starts mid (id_at place id.number) job started s;
     looks = λ r id seen s. (mid : R) × Others r mid × m.looks mid (id_at place id.number) seen s;
@@ -85,9 +85,9 @@ module _ {R : Type 0} (m : JobsSteps R) (place : ℕ) where
 -- The part of a history that is a desk's is a history of a server with no other desk, from the same
 -- desk on, and it leads to the desk as it is.
 pub record HasServerAlone {R : Type 0} (m : JobsSteps R) (place : ℕ) (first : ServerState R)
-    (begun : DeskState) (events : List Event) (s : ServerState R) (desk : DeskState) : Type 0 where
+    (begun : DeskState) (events : List ServerEvent) (s : ServerState R) (desk : DeskState) : Type 0 where
   pub left : R
-  pub happens : Happens (alone m place)
+  pub happens : Happens (seen_by_desk m place)
       (one_desk first.keep begun (waiting_of place first.waiting) first.jobs)
       (part_of first.names place events)
       (one_desk first.keep desk (waiting_of place s.waiting) left)

@@ -1,9 +1,8 @@
 -- The one relation: what a server answers.
-use Rattle.std.specs.Prelude.{◌≡◌, ◌⊎◌, ◌≤◌, ℕ, Bool, List, [], ◌∷◌, ◌++◌, length, slice_get, slice_set, Option, Some, None, Result, Ok, Err}
+use Rattle.std.specs.Prelude.{◌≡◌, ◌⊎◌, ◌≤◌, ℕ, List, [], ◌∷◌, ◌++◌, length, slice_get, slice_set, Some, None, Result, Ok, Err}
 use Rattle.credit_book.specs.declared.book.Report.{Report}
 use Rattle.job_core.specs.Admitted.{AdmittedJob}
-use Rattle.accounts.specs.Ledgers.{Ledger}
-use Rattle.sessions.specs.Replies.{frame_of, frame_or_refusal, server_data}
+use Rattle.sessions.specs.Replies.{frame_or_refusal, server_data}
 use Rattle.sessions.specs.declared.server_totals.ConnectionTotals.{ConnectionTotals}
 use Rattle.sessions.specs.declared.server_totals.JobTotals.{JobTotals}
 use Rattle.sessions.specs.declared.server_totals.RefusalCount.{RefusalCount}
@@ -12,7 +11,7 @@ use Rattle.server_state.specs.declared.access.Access.{Access}
 use Rattle.server_state.specs.declared.job_id.JobId.{JobId}
 use Rattle.server_state.specs.States.{DeskState, ServerState, JobsSteps, with_jobs}
 use Rattle.server_state.specs.Queries.{Query, Destination, desk_at, server_itself, refused_by, goes, desk_query}
-use Rattle.server_state.specs.Desks.{Replies, refusal_frame}
+use Rattle.server_state.specs.Desks.{DeskReplies, refusal_frame}
 
 -- The desk at a place changes so, with the runner, and nothing else does.
 pub record ChangesAt {R : Type 0} (place : ℕ)
@@ -42,7 +41,7 @@ pub record NotesEnd (number : ℕ) (outcome : Result Report ℕ) (old new : Desk
 module _ {R : Type 0} (m : JobsSteps R) where
   -- A job that is over was taken from the runner, and its desk notes the end. The end is passed over
   -- where there is no such desk.
-  pub record Ends (s : ServerState R) (id : JobId) (outcome : Result Report ℕ) (t : ServerState R) :
+  pub record EndsJob (s : ServerState R) (id : JobId) (outcome : Result Report ℕ) (t : ServerState R) :
       Type 0 where
     pub takes : m.takes s.jobs (Some (id, outcome)) t.jobs
     pub notes : ChangesAt id.desk (λ d r e q. NotesEnd id.number outcome d e) s t
@@ -56,7 +55,7 @@ module _ {R : Type 0} (m : JobsSteps R) where
   waiting_behind job (Err code) others = others ++ job ∷ []
 
   -- The first job that waits was started, or it was refused and waits on.
-  pub record Begins (s t : ServerState R) : Type 0 where
+  pub record BeginsWaiting (s t : ServerState R) : Type 0 where
     pub job : JobId × AdmittedJob
     pub others : List (JobId × AdmittedJob)
     pub was : s.waiting ≡ job ∷ others
@@ -67,14 +66,14 @@ module _ {R : Type 0} (m : JobsSteps R) where
   -- the answer of a desk, of the server itself, or of none
   abbrev pub AnswersAt : Destination → ServerState R → Query → List ℕ → ServerState R → Type 0
   AnswersAt (desk_at place) s query frame t =
-      ChangesAt place (λ d r e q. Replies m place s.keep d r query frame e q) s t
+      ChangesAt place (λ d r e q. DeskReplies m place s.keep d r query frame e q) s t
   AnswersAt server_itself s query frame t = TellsCounts frame × (t ≡ s)
   AnswersAt (refused_by code) s query frame t = (frame ≡ refusal_frame code) × (t ≡ s)
 
   -- The answer at a state: the desk that the query goes to answers it alone; or the server itself
   -- does, and changes nothing; or a refusal says why there is none.
-  abbrev pub Answers : ServerState R → Access → Query → List ℕ → ServerState R → Type 0
-  Answers s access query frame t =
+  abbrev pub ServerAnswers : ServerState R → Access → Query → List ℕ → ServerState R → Type 0
+  ServerAnswers s access query frame t =
       AnswersAt (goes s.names access query) s (desk_query s.names access query) frame t
 
   -- ends of jobs, one after the other
@@ -83,7 +82,7 @@ module _ {R : Type 0} (m : JobsSteps R) where
     none_yet : EndsEach s [] s
     one_more : (ends : List (JobId × Result Report ℕ)) (t : ServerState R) (id : JobId)
         (outcome : Result Report ℕ) (u : ServerState R)
-        → EndsEach s ends t → Ends t id outcome u → EndsEach s (ends ++ (id, outcome) ∷ []) u
+        → EndsEach s ends t → EndsJob t id outcome u → EndsEach s (ends ++ (id, outcome) ∷ []) u
 
   -- until none is left
   pub record Collects (s : ServerState R) (ends : List (JobId × Result Report ℕ))
@@ -98,4 +97,4 @@ module _ {R : Type 0} (m : JobsSteps R) where
       (ends : List (JobId × Result Report ℕ)) (frame : List ℕ) (t : ServerState R) : Type 0 where
     pub mid : ServerState R
     pub collects : Collects s ends mid
-    pub answers : Answers mid access query frame t
+    pub answers : ServerAnswers mid access query frame t

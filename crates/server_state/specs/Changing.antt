@@ -1,8 +1,8 @@
 -- What changes make of desks.
-use Rattle.std.specs.Prelude.{◌≡◌, ℕ, List, [], ◌∷◌, ◌++◌, length, slice_get, slice_set, Option, Some, None, Result, true, option_map, string_bytes}
+use Rattle.std.specs.Prelude.{◌≡◌, ◌+◌, ℕ, List, [], ◌∷◌, ◌++◌, length, slice_get, slice_set, Option, Some, None, true, option_map, string_bytes}
 use Rattle.job_core.specs.Admission.{IsAdmittedFrom}
 use Rattle.job_core.specs.Admitted.{AdmittedJob}
-use Rattle.accounts.specs.Ledgers.{Ledger, Finishes, Forgets, GrantsMore, Takes}
+use Rattle.accounts.specs.Ledgers.{Ledger, Finishes, Forgets, GrantsMore, Takes, granted_to, past_of, spent_by_jobs}
 use Rattle.sessions.specs.JobKeys.{noted}
 use Rattle.sessions.specs.declared.job_key.KeyedJob.{KeyedJob}
 use Rattle.server_state.specs.declared.change.Change.{Change}
@@ -26,10 +26,16 @@ abbrev pub noted_each : List KeyedJob → List KeyedJob → List KeyedJob
 noted_each keys [] = keys
 noted_each keys (k ∷ more) = noted_each (noted keys k.job k.key) more
 
+-- a tenant to whom nothing was granted yet has spent nothing
+abbrev pub SpentNothing : Ledger → List ℕ → Type 0
+SpentNothing ledger name = granted_to ledger name ≡ None
+    → past_of ledger name + spent_by_jobs ledger.jobs name ≡ 0
+
 -- what a change makes of its desk
 abbrev pub Makes : Change → DeskState → DeskState → Type 0
 Makes (Granted desk tenant amount) old new =
     GrantsMore old.ledger (string_bytes tenant) amount new.ledger × (new.keys ≡ old.keys)
+    × SpentNothing old.ledger (string_bytes tenant)
 Makes (Taken desk tenant key programs credit buffer) old new =
     Takes old.ledger (string_bytes tenant) credit new.ledger
     × ((job : AdmittedJob) × IsAdmittedFrom programs.items credit buffer.items job)

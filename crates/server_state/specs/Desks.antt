@@ -79,12 +79,12 @@ module _ {R : Type 0} (m : JobsSteps R) (place : ℕ) where
         × (new.keys ≡ keys_behind old key new.ledger)
 
     -- The reply of the desk to a query, and the desk and the runner behind it.
-    unfoldable pub Replies : DeskState → R → Query → List ℕ → DeskState → R → Type 0
-    Replies old r (plain asked) frame new s = RepliesOrRefuses old r asked frame new s
-    Replies old r (keyed None asked) frame new s =
+    unfoldable pub DeskReplies : DeskState → R → Query → List ℕ → DeskState → R → Type 0
+    DeskReplies old r (plain asked) frame new s = RepliesOrRefuses old r asked frame new s
+    DeskReplies old r (keyed None asked) frame new s =
         (frame ≡ refusal_frame 73) × (new ≡ old) × (s ≡ r)
-    Replies old r (keyed (Some key) asked) frame new s =
+    DeskReplies old r (keyed (Some key) asked) frame new s =
         RepliesByKey (job_among old.keys key) old r key asked frame new s
-    Replies old r (jobs from) frame new s =
+    DeskReplies old r (jobs from) frame new s =
         (frame ≡ jobs_frame old from) × (new ≡ old) × (s ≡ r)
-    Replies old r (counts stops) frame new s = ⊥
+    DeskReplies old r (counts stops) frame new s = ⊥

@@ -6,3 +6,5 @@ pub mod Answering
 pub mod Histories
 pub mod Alone
 pub mod Changing
+pub mod Keyed
+pub mod AlikeEvents

@@ -32,7 +32,10 @@ pub enum Change {
         outcome: Result<SharedReport, u8>,
     },
     /// Of the jobs up to this number, those that are over were forgotten.
-    Forgotten { desk: u16, ahead: u64 },
+    Forgotten {
+        desk: u16,
+        ahead: u64,
+    },
 }
 
 /// Takes the changes of desks, in order. Once one is missing it is not sound any more, for good.

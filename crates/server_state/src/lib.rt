@@ -11,4 +11,4 @@ pub use access::Access;
 pub use change::{Change, Changes};
 pub use job_id::JobId;
 pub use jobs::{Jobs, RefusedStart};
-pub use laws::each_tenant_is_alone;
+pub use laws::{each_tenant_is_alone, one_key_one_job, others_are_not_told};

@@ -1,5 +1,3 @@
-use Rattle.std.proofs.Common.{IfSome, Some}
-use Rattle.server_state.specs.Changing.{MakesAt}
 use Rattle.server_handler.proofs.Recorded.{records_missing, records_one}
 use Rattle.server_handler.proofs.made_changes.add_made.Goals as goal
 

@@ -1,0 +1,2 @@
+pub mod ListeningLemmas
+pub mod LimitLemmas

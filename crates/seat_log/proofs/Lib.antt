@@ -1,0 +1,2 @@
+pub mod LogLists
+pub mod LogSteps

@@ -1,0 +1,3 @@
+pub mod LogParts
+pub mod LogRule
+pub mod Seated
