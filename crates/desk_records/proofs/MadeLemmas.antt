@@ -10,7 +10,7 @@ use Rattle.sqlite_keyed.specs.Keyed.{insert_by}
 use Rattle.sqlite_keyed.specs.Lists.{without_key}
 use Rattle.desk_records.specs.Changes.{IsNarrowChange, IsNarrowNoted, all_changed, changed, with_noted, with_row, without_dropped, without_jobs, without_rows}
 use Rattle.desk_records.specs.Columns.{id_of}
-use Rattle.desk_records.specs.Made.{all_made, desk_key, jobs_left, key_id, keys_left, keys_noted, made, outcome_key, outcomes_left, stored_job_key, tenant_key}
+use Rattle.desk_records.specs.Made.{all_made, desk_key, jobs_left, key_id, keys_but, keys_noted, made, outcome_key, outcomes_left, stored_job_key, tenant_key}
 use Rattle.desk_records.specs.RecordLemmas.{desk_back, job_back, key_back, outcome_back, tenant_back}
 use Rattle.desk_records.specs.Records.{IsNarrowDesk, IsNarrowJob, IsNarrowKey, IsNarrowOutcome, IsNarrowTenant, desk_of_row, desk_row, job_of_row, job_row, key_of_row, key_row, outcome_of_row, outcome_row, tenant_of_row, tenant_row}
 use Rattle.desk_records.specs.Stored.{AreNarrow, IsStored, Ledgers}
@@ -60,7 +60,7 @@ forgotten_stored db l desk (number ∷ numbers) s =
 key_there : (db : Trees) (l : Ledgers) (k : StoredKey) → IsStored db l → IsStored (with_row db Key (key_row k)) (record l { keys = insert_by key_id l.keys k })
 key_there db l k s = record { tenants = s.tenants; jobs = s.jobs; outcomes = s.outcomes; desks = s.desks; keys = ap (put_row (key_row k)) s.keys ∙ put_is key_row key_id (λ it. refl) k l.keys }
 
-key_dropped : (db : Trees) (l : Ledgers) (desk : ℕ) (dropped : Option ℕ) → IsStored db l → IsStored (without_dropped db desk dropped) (record l { keys = keys_left desk l.keys dropped })
+key_dropped : (db : Trees) (l : Ledgers) (desk : ℕ) (dropped : Option ℕ) → IsStored db l → IsStored (without_dropped db desk dropped) (record l { keys = keys_but desk l.keys dropped })
 key_dropped db l desk None s = record { tenants = s.tenants; jobs = s.jobs; outcomes = s.outcomes; desks = s.desks; keys = s.keys }
 key_dropped db l desk (Some number) s = record {
   tenants = s.tenants;
@@ -150,7 +150,7 @@ narrow_outcomes desk outcomes [] each = each
 narrow_outcomes desk outcomes (number ∷ numbers) each =
     narrow_outcomes desk (without_key outcome_key outcomes (pos (id_of desk number))) numbers (all_without IsNarrowOutcome outcome_key outcomes (pos (id_of desk number)) each)
 
-narrow_left : (desk : ℕ) (keys : List StoredKey) (dropped : Option ℕ) → All IsNarrowKey keys → All IsNarrowKey (keys_left desk keys dropped)
+narrow_left : (desk : ℕ) (keys : List StoredKey) (dropped : Option ℕ) → All IsNarrowKey keys → All IsNarrowKey (keys_but desk keys dropped)
 narrow_left desk keys None each = each
 narrow_left desk keys (Some number) each = all_without IsNarrowKey key_id keys (pos (id_of desk number)) each
 

@@ -38,13 +38,13 @@ outcomes_left desk =
     fold (λ outcomes number. without_key outcome_key outcomes (pos (id_of desk number)))
 
 -- the keys that are remembered, without one that is dropped, and with one that is noted
-abbrev pub keys_left : ℕ → List StoredKey → Option ℕ → List StoredKey
-keys_left desk keys None = keys
-keys_left desk keys (Some number) = without_key key_id keys (pos (id_of desk number))
+abbrev pub keys_but : ℕ → List StoredKey → Option ℕ → List StoredKey
+keys_but desk keys None = keys
+keys_but desk keys (Some number) = without_key key_id keys (pos (id_of desk number))
 
 abbrev pub keys_noted : List StoredKey → Option NotedKey → List StoredKey
 keys_noted keys None = keys
-keys_noted keys (Some k) = keys_left k.key.desk (insert_by key_id keys k.key) k.dropped
+keys_noted keys (Some k) = keys_but k.key.desk (insert_by key_id keys k.key) k.dropped
 
 -- a record is in its place, and in place of one that has its key; a job that is forgotten is gone
 abbrev pub made : Ledgers → StoredChange → Ledgers

@@ -20,12 +20,12 @@ use Rattle.desk_records.specs.declared.stored_change.StoredChange.TheVariants as
 use Rattle.desk_records.specs.declared.stored_key.StoredKey.{StoredKey}
 use Rattle.desk_records.specs.declared.stored_tenant.StoredTenant.{StoredTenant}
 use Rattle.desk_records.proofs.MadeLemmas.{all_made_stored, all_narrow_made, narrow_made, one_set}
-use Rattle.server_state.specs.Changing.{Makes, desk_of, last_keyed, noted_each}
+use Rattle.server_state.specs.Changing.{LeadAll, Makes, desk_of, last_keyed, no_change, noted_each, one_change}
 use Rattle.server_state.specs.States.{DeskState}
 use Rattle.server_state.specs.declared.change.Change.{Change}
 use Rattle.server_state.specs.declared.change.Change.TheVariants.{Granted, Taken, Settled, Forgotten}
-use Rattle.ledger_records.specs.ChangedRows.{AreRecorded, AreRowsOf, IsFirstGrant, IsRecorded, IsRowOfKey, none_yet, one_more}
-use Rattle.ledger_records.specs.DeskRecords.{AreDesksOf, AreStatesAlike, IsDeskOf, keys_of}
+use Rattle.ledger_records.specs.ChangedRows.{AreRowsOf, AreRowsOfAll, IsRowOfKey, more_rows, no_rows}
+use Rattle.ledger_records.specs.DeskRecords.{AreDesksOf, AreStatesAlike, IsDeskOf, keyed_jobs_of}
 use Rattle.ledger_records.specs.LedgerRecords.{HasFewerKeyed}
 use Rattle.ledger_records.proofs.Alike.{ledgers_alike}
 use Rattle.ledger_records.proofs.Finding.{set_here, set_other, tenant_found}
@@ -44,7 +44,7 @@ key_of_row P desk l number (Some key) (Some row) is each = subst P (sym is.0) (e
 module _ (desk : ℕ) (l : Ledgers) (old : DeskState) (is : IsDeskOf desk l old) (narrow : AreNarrow l) (rise : IsKeyedBy key_id l.keys) where
   -- the keys behind a job that was taken
   keys_behind : (new : DeskState) (number : ℕ) (key : Option (List ℕ)) (row : Option NotedKey) → IsRowOfKey desk l number key row → new.keys ≡ noted_each old.keys (last_keyed key new.ledger) → number ≡ length new.ledger.jobs → number ≡ length old.ledger.jobs + 1 → IsNarrowNoted row
-      → (new.keys ≡ keys_of desk (keys_noted l.keys row)) × (length new.keys ≤ 1000)
+      → (new.keys ≡ keyed_jobs_of desk (keys_noted l.keys row)) × (length new.keys ≤ 1000)
   keys_behind new number None None row_is told last next small = (told ∙ is.keys, subst (λ (ks : List KeyedJob). length ks ≤ 1000) (sym told) is.few)
   keys_behind new number None (Some row) row_is told last next small = absurd row_is
   keys_behind new number (Some key) None row_is told last next small = absurd row_is
@@ -53,22 +53,22 @@ module _ (desk : ℕ) (l : Ledgers) (old : DeskState) (is : IsDeskOf desk l old)
       let numbered : row.key.number ≡ number = ap (λ (k : StoredKey). k.number) row_is.0 in
       let below : All (IsBelow desk row.key.number) l.keys =
       all_weaker (HasFewerKeyed desk (length old.ledger.jobs)) (IsBelow desk row.key.number) (λ y fewer mine. let p = fewer mine in omega (arith, p, numbered, next)) l.keys is.ledger.taken.keys in
-      let few : length (keys_of desk l.keys) ≤ 1000 = subst (λ (ks : List KeyedJob). length ks ≤ 1000) is.keys is.few in
+      let few : length (keyed_jobs_of desk l.keys) ≤ 1000 = subst (λ (ks : List KeyedJob). length ks ≤ 1000) is.keys is.few in
       let kept = keys_kept desk l.keys row rise narrow.keys own small.0 below few row_is.1 in (
-        told ∙ ap (λ (ks : List KeyedJob). noted ks (length new.ledger.jobs) key) is.keys ∙ ap (λ (n : ℕ). noted (keys_of desk l.keys) n key) (sym (numbered ∙ last))
-            ∙ ap (λ (k : List ℕ). noted (keys_of desk l.keys) row.key.number k) (sym (ap (λ (k : StoredKey). k.key) row_is.0)) ∙ sym kept,
+        told ∙ ap (λ (ks : List KeyedJob). noted ks (length new.ledger.jobs) key) is.keys ∙ ap (λ (n : ℕ). noted (keyed_jobs_of desk l.keys) n key) (sym (numbered ∙ last))
+            ∙ ap (λ (k : List ℕ). noted (keyed_jobs_of desk l.keys) row.key.number k) (sym (ap (λ (k : StoredKey). k.key) row_is.0)) ∙ sym kept,
         subst (λ (ks : List KeyedJob). length ks ≤ 1000) (sym told) (few_noted old.keys (length new.ledger.jobs) key is.few),
       )
 
 -- the desk of the change
-own_kept : (l : Ledgers) (c : Change) (old new : DeskState) (rows : StoredChange) → IsDeskOf (desk_of c) l old → AreNarrow l → IsKeyedBy key_id l.keys → Makes c old new → IsFirstGrant c old → AreRowsOf l c rows → IsNarrowChange rows → IsDeskOf (desk_of c) (made l rows) new
-own_kept l (Granted d tenant amount) old new rows is narrow rise makes first are small =
+own_kept : (l : Ledgers) (c : Change) (old new : DeskState) (rows : StoredChange) → IsDeskOf (desk_of c) l old → AreNarrow l → IsKeyedBy key_id l.keys → Makes c old new → AreRowsOf l c rows → IsNarrowChange rows → IsDeskOf (desk_of c) (made l rows) new
+own_kept l (Granted d tenant amount) old new rows is narrow rise makes are small =
     subst (λ (r : StoredChange). IsDeskOf d (made l r) new) (sym are.1) (record {
-      ledger = granted_kept d l old.ledger new.ledger (string_bytes tenant) amount are.0 is.ledger makes.0 first are.2;
+      ledger = granted_kept d l old.ledger new.ledger (string_bytes tenant) amount are.0 is.ledger makes.0 makes.2 are.2;
       keys = makes.1 ∙ is.keys;
       few = subst (λ (ks : List KeyedJob). length ks ≤ 1000) (sym makes.1) is.few;
     })
-own_kept l (Taken d tenant key programs credit buffer) old new rows is narrow rise makes first are small =
+own_kept l (Taken d tenant key programs credit buffer) old new rows is narrow rise makes are small =
     let t = are.0 in
     let row = are.2 in
     let wide : IsNarrowChange (stored.Taken t) = subst IsNarrowChange are.1 small in
@@ -84,7 +84,7 @@ own_kept l (Taken d tenant key programs credit buffer) old new rows is narrow ri
       keys = keys.0;
       few = keys.1;
     })
-own_kept l (Settled id outcome) old new rows is narrow rise makes first are small =
+own_kept l (Settled id outcome) old new rows is narrow rise makes are small =
     let s = are.0 in
     let row = are.2 in
     let wide : IsNarrowChange (stored.Settled s) = subst IsNarrowChange are.1 small in
@@ -95,7 +95,7 @@ own_kept l (Settled id outcome) old new rows is narrow rise makes first are smal
       keys = makes.1 ∙ is.keys;
       few = subst (λ (ks : List KeyedJob). length ks ≤ 1000) (sym makes.1) is.few;
     })
-own_kept l (Forgotten d ahead) old new rows is narrow rise makes first are small =
+own_kept l (Forgotten d ahead) old new rows is narrow rise makes are small =
     subst (λ (r : StoredChange). IsDeskOf d (made l r) new) (sym are.1) (record {
       ledger = forgotten_kept d l old.ledger new.ledger ahead are.0 is.ledger makes.0 are.2;
       keys = makes.1 ∙ is.keys;
@@ -145,38 +145,82 @@ rise_kept l (Settled id outcome) rows are rise = subst (λ (r : StoredChange). I
 rise_kept l (Forgotten d ahead) rows are rise = subst (λ (r : StoredChange). IsKeyedBy key_id (made l r).keys) (sym are.1) rise
 
 -- one change of all desks
-recorded_kept : (desks : List DeskState) (l : Ledgers) (c : Change) (rows : StoredChange) (after : List DeskState) → AreDesksOf l desks → IsRecorded desks l c rows after → AreDesksOf (made l rows) after
-recorded_kept desks l c rows after are one = record {
-  each = λ place state at. go place state (sym (ap (λ (ds : List DeskState). slice_get ds place) one.is) ∙ at) (cases_eq place (desk_of c));
-  narrow = narrow_made l rows are.narrow one.narrow;
-  rise = rise_kept l c rows one.are are.rise;
+change_kept : (desks : List DeskState) (l : Ledgers) (c : Change) (rows : StoredChange) (old new : DeskState) → AreDesksOf l desks → slice_get desks (desk_of c) ≡ Some old → Makes c old new → AreRowsOf l c rows → IsNarrowChange rows → AreDesksOf (made l rows) (slice_set desks (desk_of c) new)
+change_kept desks l c rows old new are was makes is narrow = record {
+  each = λ place state at. go place state at (cases_eq place (desk_of c));
+  narrow = narrow_made l rows are.narrow narrow;
+  rise = rise_kept l c rows is are.rise;
 }
   where
-    go : (place : ℕ) (state : DeskState) → slice_get (slice_set desks (desk_of c) one.new) place ≡ Some state → (place ≡ desk_of c) ⊎ (place ≡ desk_of c → ⊥) → IsDeskOf place (made l rows) state
+    go : (place : ℕ) (state : DeskState) → slice_get (slice_set desks (desk_of c) new) place ≡ Some state → (place ≡ desk_of c) ⊎ (place ≡ desk_of c → ⊥) → IsDeskOf place (made l rows) state
     go place state at (inl same) =
-        let here : slice_get (slice_set desks (desk_of c) one.new) (desk_of c) ≡ Some state = ap (slice_get (slice_set desks (desk_of c) one.new)) (sym same) ∙ at in
-        let there : Some one.new ≡ Some state = sym (set_here desks (desk_of c) one.old one.new one.was) ∙ here in
-        let new : one.new ≡ state = cc there in
-        subst (λ (p : ℕ). IsDeskOf p (made l rows) state) (sym same)
-        (subst (λ (s : DeskState). IsDeskOf (desk_of c) (made l rows) s) new (own_kept l c one.old one.new rows (are.each (desk_of c) one.old one.was) are.narrow are.rise one.makes one.first one.are one.narrow))
-    go place state at (inr other) =
-        other_kept l c place state rows (λ same. other (sym same)) (are.each place state (sym (set_other desks (desk_of c) place one.new other) ∙ at)) are.narrow one.are one.narrow
+        let here : slice_get (slice_set desks (desk_of c) new) (desk_of c) ≡ Some state = ap (slice_get (slice_set desks (desk_of c) new)) (sym same) ∙ at in
+        let there : Some new ≡ Some state = sym (set_here desks (desk_of c) old new was) ∙ here in
+        let one : new ≡ state = cc there in
+        subst (λ (p : ℕ). IsDeskOf p (made l rows) state) (sym same) (subst (λ (s : DeskState). IsDeskOf (desk_of c) (made l rows) s) one (own_kept l c old new rows (are.each (desk_of c) old was) are.narrow are.rise makes is narrow))
+    go place state at (inr other) = other_kept l c place state rows (λ same. other (sym same)) (are.each place state (sym (set_other desks (desk_of c) place new other) ∙ at)) are.narrow is narrow
 
-pub all_recorded : (desks : List DeskState) (l : Ledgers) (changes : List Change) (all : List StoredChange) (after : List DeskState) → AreDesksOf l desks → AreRecorded desks l changes all after → AreDesksOf (all_made l all) after
-all_recorded desks l _ _ _ are none_yet = are
-all_recorded desks l _ _ _ are (one_more changes all mid c rows after before one) =
-    subst (λ (m : Ledgers). AreDesksOf m after) (sym (fold-append made l all (rows ∷ []))) (recorded_kept mid (all_made l all) c rows after (all_recorded desks l changes all mid are before) one)
+-- the last of a list that has one more
+same_ends : {X : Type 0} (xs ys : List X) (x y : X) → xs ++ x ∷ [] ≡ ys ++ y ∷ [] → (xs ≡ ys) × (x ≡ y)
+same_ends [] [] x y same = (refl, cc same)
+same_ends [] (z ∷ []) x y same = absurd (cc)
+same_ends [] (z ∷ w ∷ ys) x y same = absurd (cc)
+same_ends (z ∷ []) [] x y same = absurd (cc)
+same_ends (z ∷ w ∷ xs) [] x y same = absurd (cc)
+same_ends {X} (z ∷ xs) (w ∷ ys) x y same =
+    let head : z ≡ w = cc same in
+    let tail : xs ++ x ∷ [] ≡ ys ++ y ∷ [] = cc same in
+    let both = same_ends xs ys x y tail in
+    (ap (λ (v : X). v ∷ xs) head ∙ ap (λ (vs : List X). w ∷ vs) both.0, both.1)
 
-pub all_narrow_rows : (desks : List DeskState) (l : Ledgers) (changes : List Change) (all : List StoredChange) (after : List DeskState) → AreRecorded desks l changes all after → All IsNarrowChange all
-all_narrow_rows desks l _ _ _ none_yet = λ k d lt. absurd (omega (arith, lt))
-all_narrow_rows desks l _ _ _ (one_more changes all mid c rows after before one) = All-push IsNarrowChange all rows (all_narrow_rows desks l changes all mid before) one.narrow
+no_end : {X : Type 0} (xs : List X) (x : X) → [] ≡ xs ++ x ∷ [] → ⊥
+no_end [] x same = absurd (cc)
+no_end (y ∷ xs) x same = absurd (cc)
+
+-- the last of changes that lead from desks to others
+record LastLead (old : List DeskState) (changes : List Change) (c : Change) (after : List DeskState) : Type 0 where
+  desks : List DeskState
+  led : LeadAll old changes desks
+  mid : DeskState
+  was : slice_get desks (desk_of c) ≡ Some mid
+  new : DeskState
+  makes : Makes c mid new
+  is : after ≡ slice_set desks (desk_of c) new
+
+last_lead : (old : List DeskState) (all : List Change) (after : List DeskState) (changes : List Change) (c : Change) → LeadAll old all after → all ≡ changes ++ c ∷ [] → LastLead old changes c after
+last_lead old _ _ changes c no_change same = absurd (no_end changes c same)
+last_lead old _ _ changes c (one_change before desks d mid new led was makes) same =
+    let both = same_ends before changes d c same in record {
+      desks = desks;
+      led = subst (λ (cs : List Change). LeadAll old cs desks) both.0 led;
+      mid = mid;
+      was = ap (λ (x : Change). slice_get desks (desk_of x)) (sym both.1) ∙ was;
+      new = new;
+      makes = subst (λ (x : Change). Makes x mid new) both.1 makes;
+      is = ap (λ (x : Change). slice_set desks (desk_of x) new) both.1;
+    }
+
+none_lead : (old : List DeskState) (all : List Change) (after : List DeskState) → LeadAll old all after → all ≡ [] → after ≡ old
+none_lead old _ _ no_change none = refl
+none_lead old _ _ (one_change before desks d mid new led was makes) none = absurd (no_end before d (sym none))
+
+pub all_recorded : (desks : List DeskState) (l : Ledgers) (changes : List Change) (all : List StoredChange) (after : List DeskState) → AreDesksOf l desks → LeadAll desks changes after → AreRowsOfAll l changes all → AreDesksOf (all_made l all) after
+all_recorded desks l _ _ after are lead no_rows = subst (λ (d : List DeskState). AreDesksOf l d) (sym (none_lead desks [] after lead refl)) are
+all_recorded desks l _ _ after are lead (more_rows changes all c rows before is narrow) =
+    let last = last_lead desks (changes ++ c ∷ []) after changes c lead refl in
+    let mid = all_recorded desks l changes all last.desks are last.led before in
+    subst (λ (m : Ledgers). AreDesksOf m after) (sym (fold-append made l all (rows ∷ []))) (subst (λ (d : List DeskState). AreDesksOf (made (all_made l all) rows) d) (sym last.is) (change_kept last.desks (all_made l all) c rows last.mid last.new mid last.was last.makes is narrow))
+
+pub all_narrow_rows : (l : Ledgers) (changes : List Change) (all : List StoredChange) → AreRowsOfAll l changes all → All IsNarrowChange all
+all_narrow_rows l _ _ no_rows = λ k d lt. absurd (omega (arith, lt))
+all_narrow_rows l _ _ (more_rows changes all c rows before is narrow) = All-push IsNarrowChange all rows (all_narrow_rows l changes all before) narrow
 
 -- what a restart loads is what the changes made
-pub restored_alike : (desks : List DeskState) (l : Ledgers) (changes : List Change) (all : List StoredChange) (after : List DeskState) (db : Trees) (loaded : Ledgers) (place : ℕ) (state restored : DeskState) → AreDesksOf l desks → AreRecorded desks l changes all after → IsStored db l
+pub restored_alike : (desks : List DeskState) (l : Ledgers) (changes : List Change) (all : List StoredChange) (after : List DeskState) (db : Trees) (loaded : Ledgers) (place : ℕ) (state restored : DeskState) → AreDesksOf l desks → LeadAll desks changes after → AreRowsOfAll l changes all → IsStored db l
     → IsStored (all_changed db all) loaded → AreNarrow loaded → slice_get after place ≡ Some state → IsDeskOf place loaded restored → AreStatesAlike state restored
-restored_alike desks l changes all after db loaded place state restored are recorded stored_l stored_all narrow at is =
-    let made_of = all_recorded desks l changes all after are recorded in
-    let each = all_narrow_rows desks l changes all after recorded in
+restored_alike desks l changes all after db loaded place state restored are lead rows stored_l stored_all narrow at is =
+    let made_of = all_recorded desks l changes all after are lead rows in
+    let each = all_narrow_rows l changes all rows in
     let same : loaded ≡ all_made l all = one_set (all_changed db all) loaded (all_made l all) narrow (all_narrow_made l all are.narrow each) stored_all (all_made_stored db l all stored_l) in
     let one = made_of.each place state at in
     let two : IsDeskOf place (all_made l all) restored = subst (λ (m : Ledgers). IsDeskOf place m restored) same is in

@@ -17,9 +17,9 @@ use Rattle.desk_records.specs.declared.stored_desk.StoredDesk.{StoredDesk}
 use Rattle.desk_records.specs.declared.stored_job.StoredJob.{StoredJob}
 use Rattle.desk_records.specs.declared.stored_key.StoredKey.{StoredKey}
 use Rattle.server_state.specs.States.{DeskState}
-use Rattle.ledger_records.specs.DeskRecords.{IsDeskOf, is_key_of, keyed_job, keys_of}
+use Rattle.ledger_records.specs.DeskRecords.{IsDeskOf, is_key_of, keyed_job, keyed_jobs_of}
 use Rattle.ledger_records.specs.LedgerRecords.{HasFewerKeyed, HasFewerTaken, HasTaken, IsLedgerOf, desk_record, is_row_of, job_record}
-use Rattle.ledger_records.specs.SoFar.{AreKeysSoFar, EndsSoFar, EndsTaken, IsSoFar, NotesRow, StandsSoFar, TellsMore}
+use Rattle.ledger_records.specs.SoFar.{AreKeysSoFar, EndsSoFar, TellsLast, IsSoFar, NotesRow, StandsSoFar, TellsMore}
 use Rattle.sqlite_keyed.proofs.KeyedLemmas.{int_eq_apart}
 use Rattle.ledger_records.proofs.Finding.{itself}
 use Rattle.ledger_records.proofs.Keys.{all_stay, few_noted, is_own, own_is}
@@ -41,19 +41,19 @@ map_joined [] ys = refl
 map_joined (x ∷ xs) ys = ap (λ (l : List KeyedJob). keyed_job x ∷ l) (map_joined xs ys)
 
 -- the keyed jobs of the desk with a row more
-keys_more : (desk : ℕ) (xs : List StoredKey) (x : StoredKey) → keys_of desk (xs ++ x ∷ []) ≡ keys_of desk xs ++ map keyed_job (cond (is_key_of desk x) (x ∷ []) [])
+keys_more : (desk : ℕ) (xs : List StoredKey) (x : StoredKey) → keyed_jobs_of desk (xs ++ x ∷ []) ≡ keyed_jobs_of desk xs ++ map keyed_job (cond (is_key_of desk x) (x ∷ []) [])
 keys_more desk xs x = ap (map keyed_job) (filter_more desk xs x) ∙ map_joined (filter (is_key_of desk) xs) (cond (is_key_of desk x) (x ∷ []) [])
 
 pub key_noted : (desk count : ℕ) (done : List StoredKey) (row : StoredKey) (old new : List KeyedJob) → AreKeysSoFar desk count done old → NotesRow desk count row old new → AreKeysSoFar desk count (done ++ row ∷ []) new
 key_noted desk count done row old new so (inl other) =
     let apart : is_key_of desk row ≡ false = (let o = other.0 in grind (arith, nat_tests, o)) in record {
-      are = other.1 ∙ so.are ∙ sym (keys_more desk done row ∙ ap (λ (b : Bool). keys_of desk done ++ map keyed_job (cond b (row ∷ []) [])) apart ∙ append-nil (keys_of desk done));
+      are = other.1 ∙ so.are ∙ sym (keys_more desk done row ∙ ap (λ (b : Bool). keyed_jobs_of desk done ++ map keyed_job (cond b (row ∷ []) [])) apart ∙ append-nil (keyed_jobs_of desk done));
       few = subst (λ (ks : List KeyedJob). length ks ≤ 1000) (sym other.1) so.few;
       fewer = All-push (HasFewerKeyed desk count) done row so.fewer (λ mine. absurd (other.0 mine));
     }
 key_noted desk count done row old new so (inr own) =
     let mine : is_key_of desk row ≡ true = own_is desk row own.0 in record {
-      are = own.3 ∙ all_stay old (keyed_job row) own.2 ∙ ap (λ (ks : List KeyedJob). ks ++ keyed_job row ∷ []) so.are ∙ sym (keys_more desk done row ∙ ap (λ (b : Bool). keys_of desk done ++ map keyed_job (cond b (row ∷ []) [])) mine);
+      are = own.3 ∙ all_stay old (keyed_job row) own.2 ∙ ap (λ (ks : List KeyedJob). ks ++ keyed_job row ∷ []) so.are ∙ sym (keys_more desk done row ∙ ap (λ (b : Bool). keyed_jobs_of desk done ++ map keyed_job (cond b (row ∷ []) [])) mine);
       few = subst (λ (ks : List KeyedJob). length ks ≤ 1000) (sym own.3) (few_noted old row.number row.key so.few);
       fewer = All-push (HasFewerKeyed desk count) done row so.fewer (λ _. own.1);
     }
@@ -91,7 +91,7 @@ ends_last : (desk : ℕ) (l : Ledgers) (ledger : Ledger) → EndsSoFar desk l.jo
 ends_last desk l ledger (inl none) = inl none
 ends_last desk l ledger (inr job) = inr (inl job)
 
-pub desk_is : (desk : ℕ) (l : Ledgers) (old : Ledger) (state : DeskState) (rs : List RestoredJob) → IsSoFar desk l.tenants l.jobs l.outcomes old rs → EndsTaken desk l.desks old state.ledger → All (HasFewerTaken desk (length state.ledger.jobs)) l.desks → AreKeysSoFar desk (length state.ledger.jobs) l.keys state.keys → IsDeskOf desk l state
+pub desk_is : (desk : ℕ) (l : Ledgers) (old : Ledger) (state : DeskState) (rs : List RestoredJob) → IsSoFar desk l.tenants l.jobs l.outcomes old rs → TellsLast desk l.desks old state.ledger → All (HasFewerTaken desk (length state.ledger.jobs)) l.desks → AreKeysSoFar desk (length state.ledger.jobs) l.keys state.keys → IsDeskOf desk l state
 desk_is desk l old state rs so (inl same) fewer keys =
     from_parts desk l state (subst (λ (x : Ledger). StandsSoFar desk l.tenants l.jobs l.outcomes x) (sym same) so.stands) (ends_last desk l state.ledger (subst (λ (x : Ledger). EndsSoFar desk l.jobs x) (sym same) so.ends)) fewer keys
 desk_is desk l old state rs so (inr more) fewer keys =

@@ -14,7 +14,7 @@ use Rattle.desk_records.specs.Columns.{id_of, most_numbers}
 use Rattle.desk_records.specs.Made.{tenant_key}
 use Rattle.desk_records.specs.declared.stored_tenant.StoredTenant.{StoredTenant}
 use Rattle.desk_records.proofs.MadeLemmas.{all_without}
-use Rattle.ledger_records.specs.ChangedRows.{is_among}
+use Rattle.ledger_records.specs.ChangedRows.{is_number_in}
 use Rattle.ledger_records.specs.LedgerRecords.{HasItsNumber, is_tenant}
 
 pub or_true : (a b : Bool) → b ≡ true → (a || b) ≡ true
@@ -177,11 +177,11 @@ module _ {X : Type 0} (key : X → ℤ) where
   left_none desk xs [] id none = none
   left_none desk xs (m ∷ ms) id none = left_none desk (without_key key xs (pos (id_of desk m))) ms id (none_stays xs (pos (id_of desk m)) id none)
 
-  pub left_gone : (desk : ℕ) (xs : List X) (numbers : List ℕ) (n : ℕ) → is_among n numbers ≡ true → get_by key (left desk xs numbers) (pos (id_of desk n)) ≡ None
+  pub left_gone : (desk : ℕ) (xs : List X) (numbers : List ℕ) (n : ℕ) → is_number_in n numbers ≡ true → get_by key (left desk xs numbers) (pos (id_of desk n)) ≡ None
   left_gone desk xs [] n among = absurd (cc)
   left_gone desk xs (m ∷ ms) n among = go (m == n) refl among (λ later. left_gone desk (without_key key xs (pos (id_of desk m))) ms n later)
     where
-      go : (b : Bool) → (m == n) ≡ b → (b || is_among n ms) ≡ true → (is_among n ms ≡ true → get_by key (left desk (without_key key xs (pos (id_of desk m))) ms) (pos (id_of desk n)) ≡ None)
+      go : (b : Bool) → (m == n) ≡ b → (b || is_number_in n ms) ≡ true → (is_number_in n ms ≡ true → get_by key (left desk (without_key key xs (pos (id_of desk m))) ms) (pos (id_of desk n)) ≡ None)
           → get_by key (left desk (without_key key xs (pos (id_of desk m))) ms) (pos (id_of desk n)) ≡ None
       go true here among more =
           let same : m ≡ n = grind (arith, nat_tests) in
@@ -189,25 +189,25 @@ module _ {X : Type 0} (key : X → ℤ) where
           (ap (λ (k : ℕ). get_by key (without_key key xs (pos (id_of desk k))) (pos (id_of desk n))) same ∙ get_gone key xs (pos (id_of desk n)))
       go false here among more = more among
 
-  pub left_there : (desk : ℕ) (xs : List X) (numbers : List ℕ) (n : ℕ) → is_among n numbers ≡ false → get_by key (left desk xs numbers) (pos (id_of desk n)) ≡ get_by key xs (pos (id_of desk n))
+  pub left_there : (desk : ℕ) (xs : List X) (numbers : List ℕ) (n : ℕ) → is_number_in n numbers ≡ false → get_by key (left desk xs numbers) (pos (id_of desk n)) ≡ get_by key xs (pos (id_of desk n))
   left_there desk xs [] n among = refl
   left_there desk xs (m ∷ ms) n among = go (m == n) refl among (λ later. left_there desk (without_key key xs (pos (id_of desk m))) ms n later)
     where
-      go : (b : Bool) → (m == n) ≡ b → (b || is_among n ms) ≡ false
-          → (is_among n ms ≡ false → get_by key (left desk (without_key key xs (pos (id_of desk m))) ms) (pos (id_of desk n)) ≡ get_by key (without_key key xs (pos (id_of desk m))) (pos (id_of desk n)))
+      go : (b : Bool) → (m == n) ≡ b → (b || is_number_in n ms) ≡ false
+          → (is_number_in n ms ≡ false → get_by key (left desk (without_key key xs (pos (id_of desk m))) ms) (pos (id_of desk n)) ≡ get_by key (without_key key xs (pos (id_of desk m))) (pos (id_of desk n)))
           → get_by key (left desk (without_key key xs (pos (id_of desk m))) ms) (pos (id_of desk n)) ≡ get_by key xs (pos (id_of desk n))
       go true here among more = absurd (cc)
       go false here among more =
           let other : m ≡ n → ⊥ = λ same. grind (arith, nat_tests) in
           more among ∙ get_without key xs (pos (id_of desk m)) (pos (id_of desk n)) (apart desk m n other)
 
-  pub left_others : (desk mine : ℕ) (xs : List X) (numbers : List ℕ) (n : ℕ) → desk ≢ mine → ((m : ℕ) → is_among m numbers ≡ true → m < most_numbers) → n < most_numbers
+  pub left_others : (desk mine : ℕ) (xs : List X) (numbers : List ℕ) (n : ℕ) → desk ≢ mine → ((m : ℕ) → is_number_in m numbers ≡ true → m < most_numbers) → n < most_numbers
       → get_by key (left desk xs numbers) (pos (id_of mine n)) ≡ get_by key xs (pos (id_of mine n))
   left_others desk mine xs [] n other few small = refl
   left_others desk mine xs (m ∷ ms) n other few small =
       let own : (m == m) ≡ true = grind (arith, nat_tests) in
-      let here : is_among m (m ∷ ms) ≡ true = ap (λ (b : Bool). b || is_among m ms) own in
-      left_others desk mine (without_key key xs (pos (id_of desk m))) ms n other (λ k among. few k (or_true (m == k) (is_among k ms) among)) small
+      let here : is_number_in m (m ∷ ms) ≡ true = ap (λ (b : Bool). b || is_number_in m ms) own in
+      left_others desk mine (without_key key xs (pos (id_of desk m))) ms n other (λ k among. few k (or_true (m == k) (is_number_in k ms) among)) small
       ∙ get_without key xs (pos (id_of desk m)) (pos (id_of mine n)) (desks_apart desk mine m n other (few m here) small)
 
 module _ {X : Type 0} (key : X → ℤ) (P : X → Type 0) where

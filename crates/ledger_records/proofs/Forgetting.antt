@@ -22,7 +22,7 @@ use Rattle.desk_records.specs.declared.stored_outcome.StoredOutcome.{StoredOutco
 use Rattle.desk_records.specs.declared.stored_outcome.StoredResult.{StoredResult}
 use Rattle.desk_records.specs.declared.stored_tenant.StoredTenant.{StoredTenant}
 use Rattle.desk_records.proofs.MadeLemmas.{all_insert}
-use Rattle.ledger_records.specs.ChangedRows.{AreRowsOfForgotten, IsOverAhead, is_among}
+use Rattle.ledger_records.specs.ChangedRows.{AreRowsOfForgotten, IsOverAhead, is_number_in}
 use Rattle.ledger_records.specs.LedgerRecords.{CameTo, HasFewerJobs, HasFewerTaken, HasTaken, IsLedgerOf, StandsAs, desk_record, job_record, outcome_record, spent_of, tenant_named}
 use Rattle.ledger_records.proofs.Finding.{all_left, get_put, itself, left_gone, left_there}
 use Rattle.ledger_records.proofs.Steps.{at_number, stands_by}
@@ -78,17 +78,17 @@ module _ (desk : ℕ) (l : Ledgers) (old new : Ledger) (ahead : ℕ) (f : Forgot
   outcome_at_own : (number : ℕ) → outcome_record after desk number ≡ get_by outcome_key after.outcomes (pos (id_of f.desk.desk number))
   outcome_at_own number = ap (λ d. get_by outcome_key after.outcomes (pos (id_of d number))) (sym rows.at)
 
-  job_same : (number : ℕ) → is_among number f.numbers.items ≡ false → job_record after desk number ≡ job_record l desk number
+  job_same : (number : ℕ) → is_number_in number f.numbers.items ≡ false → job_record after desk number ≡ job_record l desk number
   job_same number among = job_at_own number ∙ left_there stored_job_key f.desk.desk l.jobs f.numbers.items number among ∙ ap (λ d. get_by stored_job_key l.jobs (pos (id_of d number))) rows.at
 
-  outcome_same : (number : ℕ) → is_among number f.numbers.items ≡ false → outcome_record after desk number ≡ outcome_record l desk number
+  outcome_same : (number : ℕ) → is_number_in number f.numbers.items ≡ false → outcome_record after desk number ≡ outcome_record l desk number
   outcome_same number among = outcome_at_own number ∙ left_there outcome_key f.desk.desk l.outcomes f.numbers.items number among ∙ ap (λ d. get_by outcome_key l.outcomes (pos (id_of d number))) rows.at
 
   -- the entry of a job that is over, up to the last one
   gone_there : (number : ℕ) (entry : JobEntry) → 1 ≤ number → number ≤ ahead → slice_get old.jobs (number - 1) ≡ Some entry → is_open entry.standing ≡ false → (x : JobEntry) × (slice_get new.jobs (number - 1) ≡ Some x) × IsGone x
   gone_there number entry first within at over = forgets.jobs.gone (number - 1) entry (omega (arith, first, within)) at over
 
-  goes : (number : ℕ) → 1 ≤ number → number < most_numbers → is_among number f.numbers.items ≡ true → StandsAs (job_at new.jobs number) (job_record after desk number) (outcome_record after desk number)
+  goes : (number : ℕ) → 1 ≤ number → number < most_numbers → is_number_in number f.numbers.items ≡ true → StandsAs (job_at new.jobs number) (job_record after desk number) (outcome_record after desk number)
   goes number first small among = by_entry (slice_get old.jobs (number - 1)) refl
     where
       over : IsOverAhead desk l ahead number
@@ -105,7 +105,7 @@ module _ (desk : ℕ) (l : Ledgers) (old new : Ledger) (ahead : ℕ) (f : Forgot
           (sym (job_at_own number ∙ left_gone stored_job_key f.desk.desk l.jobs f.numbers.items number among))
           (sym (outcome_at_own number ∙ left_gone outcome_key f.desk.desk l.outcomes f.numbers.items number among)) x.2
 
-  stays : (number : ℕ) → 1 ≤ number → number < most_numbers → is_among number f.numbers.items ≡ false → (job : Option StoredJob) (o : Option StoredOutcome) → outcome_record l desk number ≡ o → (entry : JobEntry) → slice_get old.jobs (number - 1) ≡ Some entry
+  stays : (number : ℕ) → 1 ≤ number → number < most_numbers → is_number_in number f.numbers.items ≡ false → (job : Option StoredJob) (o : Option StoredOutcome) → outcome_record l desk number ≡ o → (entry : JobEntry) → slice_get old.jobs (number - 1) ≡ Some entry
       → StandsAs (Some entry) job o → StandsAs (slice_get new.jobs (number - 1)) job o
   stays number first small among None None told entry at stands = by_place (nat_le number ahead) refl
     where
@@ -126,7 +126,7 @@ module _ (desk : ℕ) (l : Ledgers) (old new : Ledger) (ahead : ℕ) (f : Forgot
           let behind : ahead ≤ number - 1 = grind (arith, nat_tests, here, first) in
           subst (λ e. StandsAs e (Some job) (Some o)) (sym (forgets.jobs.same (number - 1) entry at (inl behind))) stands
 
-  left_as_it_was : (number : ℕ) → 1 ≤ number → number < most_numbers → is_among number f.numbers.items ≡ false → (entry : Option JobEntry) → slice_get old.jobs (number - 1) ≡ entry → StandsAs entry (job_record l desk number) (outcome_record l desk number)
+  left_as_it_was : (number : ℕ) → 1 ≤ number → number < most_numbers → is_number_in number f.numbers.items ≡ false → (entry : Option JobEntry) → slice_get old.jobs (number - 1) ≡ entry → StandsAs entry (job_record l desk number) (outcome_record l desk number)
       → StandsAs (slice_get new.jobs (number - 1)) (job_record l desk number) (outcome_record l desk number)
   left_as_it_was number first small among None at stands =
       let behind : length old.jobs ≤ number - 1 = get_none old.jobs (number - 1) at in
@@ -135,7 +135,7 @@ module _ (desk : ℕ) (l : Ledgers) (old new : Ledger) (ahead : ℕ) (f : Forgot
       subst (λ e. StandsAs e (job_record l desk number) (outcome_record l desk number)) (sym none) stands
   left_as_it_was number first small among (Some entry) at stands = stays number first small among (job_record l desk number) (outcome_record l desk number) refl entry at stands
 
-  job_stands : (number : ℕ) → 1 ≤ number → number < most_numbers → (b : Bool) → is_among number f.numbers.items ≡ b → StandsAs (job_at new.jobs number) (job_record after desk number) (outcome_record after desk number)
+  job_stands : (number : ℕ) → 1 ≤ number → number < most_numbers → (b : Bool) → is_number_in number f.numbers.items ≡ b → StandsAs (job_at new.jobs number) (job_record after desk number) (outcome_record after desk number)
   job_stands number first small true among = goes number first small among
   job_stands number first small false among =
       stands_by _ _ _ _ _ _ (sym (at_number new.jobs number first)) (sym (job_same number among)) (sym (outcome_same number among))
@@ -161,6 +161,6 @@ module _ (desk : ℕ) (l : Ledgers) (old new : Ledger) (ahead : ℕ) (f : Forgot
   forgotten_kept = record {
     granted = λ q. forgets.grants q ∙ is.granted q;
     spent = λ q r there. spent_stays old new ahead q r.granted forgets (is.granted q ∙ ap (option_map (λ (t : StoredTenant). t.granted)) there) ∙ is.spent q r there;
-    jobs = λ number first small. job_stands number first small (is_among number f.numbers.items) refl;
+    jobs = λ number first small. job_stands number first small (is_number_in number f.numbers.items) refl;
     taken = subst (λ (n : ℕ). HasTaken desk after n) (sym forgets.jobs.count) all_taken;
   }

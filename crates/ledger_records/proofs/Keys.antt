@@ -14,14 +14,14 @@ use Rattle.sessions.specs.JobKeys.{latest, noted}
 use Rattle.sessions.specs.declared.job_key.KeyedJob.{KeyedJob}
 use Rattle.desk_records.specs.Changes.{IsNarrowDropped, IsNarrowNoted}
 use Rattle.desk_records.specs.Columns.{id_of, most_numbers}
-use Rattle.desk_records.specs.Made.{key_id, keys_left, keys_noted}
+use Rattle.desk_records.specs.Made.{key_id, keys_but, keys_noted}
 use Rattle.desk_records.specs.Records.{IsNarrowKey}
 use Rattle.desk_records.proofs.MadeLemmas.{all_insert, all_without}
 use Rattle.desk_records.specs.declared.stored_change.NotedKey.{NotedKey}
 use Rattle.desk_records.specs.declared.stored_key.StoredKey.{StoredKey}
 use Rattle.ledger_records.specs.ChangedRows.{first_dropped}
 use Rattle.ledger_records.proofs.Finding.{itself}
-use Rattle.ledger_records.specs.DeskRecords.{is_key_of, keyed_job, keys_of}
+use Rattle.ledger_records.specs.DeskRecords.{is_key_of, keyed_job, keyed_jobs_of}
 
 -- keys of rows whose numbers are within what a row holds tell the desk and the number
 pub same_id : (d e n m : ℕ) → n < most_numbers → m < most_numbers → pos (id_of d n) ≡ pos (id_of e m) → (d ≡ e) × (n ≡ m)
@@ -187,8 +187,8 @@ map_long (x ∷ xs) = ap suc (map_long xs)
 
 -- the rows of a desk's keys behind one more are those of what it remembers then
 pub keys_kept : (desk : ℕ) (keys : List StoredKey) (noted_key : NotedKey) → IsKeyedBy key_id keys → All IsNarrowKey keys → noted_key.key.desk ≡ desk → IsNarrowKey noted_key.key → All (IsBelow desk noted_key.key.number) keys
-    → length (keys_of desk keys) ≤ 1000 → noted_key.dropped ≡ first_dropped (keys_of desk keys)
-    → keys_of desk (keys_noted keys (Some noted_key)) ≡ noted (keys_of desk keys) noted_key.key.number noted_key.key.key
+    → length (keyed_jobs_of desk keys) ≤ 1000 → noted_key.dropped ≡ first_dropped (keyed_jobs_of desk keys)
+    → keyed_jobs_of desk (keys_noted keys (Some noted_key)) ≡ noted (keyed_jobs_of desk keys) noted_key.key.number noted_key.key.key
 keys_kept desk keys noted_key rise narrow own fits below few dropped = by_rows (filter (is_key_of desk) keys) refl
   where
     k : StoredKey
@@ -206,27 +206,27 @@ keys_kept desk keys noted_key rise narrow own fits below few dropped = by_rows (
     all_narrow : All IsNarrowKey more
     all_narrow = all_insert IsNarrowKey key_id keys k narrow fits
 
-    stays : noted_key.dropped ≡ None → length (keys_of desk keys) < 1000 → keys_of desk (keys_left k.desk more noted_key.dropped) ≡ latest (one_more (keys_of desk keys) (keyed_job k))
+    stays : noted_key.dropped ≡ None → length (keyed_jobs_of desk keys) < 1000 → keyed_jobs_of desk (keys_but k.desk more noted_key.dropped) ≡ latest (one_more (keyed_jobs_of desk keys) (keyed_job k))
     stays none room =
-        ap (λ (d : Option ℕ). keys_of desk (keys_left k.desk more d)) none ∙ ap (map keyed_job) added ∙ map_more (filter (is_key_of desk) keys) k ∙ sym (all_stay (keys_of desk keys) (keyed_job k) room)
+        ap (λ (d : Option ℕ). keyed_jobs_of desk (keys_but k.desk more d)) none ∙ ap (map keyed_job) added ∙ map_more (filter (is_key_of desk) keys) k ∙ sym (all_stay (keyed_jobs_of desk keys) (keyed_job k) room)
 
-    by_rows : (rows : List StoredKey) → filter (is_key_of desk) keys ≡ rows → keys_of desk (keys_left k.desk more noted_key.dropped) ≡ latest (one_more (keys_of desk keys) (keyed_job k))
+    by_rows : (rows : List StoredKey) → filter (is_key_of desk) keys ≡ rows → keyed_jobs_of desk (keys_but k.desk more noted_key.dropped) ≡ latest (one_more (keyed_jobs_of desk keys) (keyed_job k))
     by_rows [] rows =
-        let none : keys_of desk keys ≡ [] = ap (map keyed_job) rows in
-        let long : length (keys_of desk keys) ≡ 0 = ap length none in
+        let none : keyed_jobs_of desk keys ≡ [] = ap (map keyed_job) rows in
+        let long : length (keyed_jobs_of desk keys) ≡ 0 = ap length none in
         stays (dropped ∙ ap first_dropped none) (omega (arith, long))
     by_rows (x ∷ xs) rows = by_room (nat_lt (length (map keyed_job xs)) 999) refl
       where
-        all : keys_of desk keys ≡ keyed_job x ∷ map keyed_job xs
+        all : keyed_jobs_of desk keys ≡ keyed_job x ∷ map keyed_job xs
         all = ap (map keyed_job) rows
 
-        long : length (keys_of desk keys) ≡ length (map keyed_job xs) + 1
-        long = let p : length (keys_of desk keys) ≡ suc (length (map keyed_job xs)) = ap length all in omega (arith, p)
+        long : length (keyed_jobs_of desk keys) ≡ length (map keyed_job xs) + 1
+        long = let p : length (keyed_jobs_of desk keys) ≡ suc (length (map keyed_job xs)) = ap length all in omega (arith, p)
 
         told : noted_key.dropped ≡ (if nat_lt (length (map keyed_job xs)) 999 then None else Some x.number)
         told = dropped ∙ ap first_dropped all
 
-        by_room : (b : Bool) → nat_lt (length (map keyed_job xs)) 999 ≡ b → keys_of desk (keys_left k.desk more noted_key.dropped) ≡ latest (one_more (keys_of desk keys) (keyed_job k))
+        by_room : (b : Bool) → nat_lt (length (map keyed_job xs)) 999 ≡ b → keyed_jobs_of desk (keys_but k.desk more noted_key.dropped) ≡ latest (one_more (keyed_jobs_of desk keys) (keyed_job k))
         by_room true room =
             let fewer : length (map keyed_job xs) < 999 = grind (arith, nat_tests, room) in
             stays (told ∙ ap (λ (b : Bool). if b then None else Some x.number) room) (omega (arith, long, fewer))
@@ -235,7 +235,7 @@ keys_kept desk keys noted_key rise narrow own fits below few dropped = by_rows (
             let exact : length (map keyed_job xs) ≡ 999 = omega (arith, long, few, more_than) in
             let gone : noted_key.dropped ≡ Some x.number = told ∙ ap (λ (b : Bool). if b then None else Some x.number) full in
             let left : filter (is_key_of desk) (without_key key_id more (pos (id_of desk x.number))) ≡ xs ++ k ∷ [] = first_removed desk more x (xs ++ k ∷ []) rises all_narrow (added ∙ ap (λ (ys : List StoredKey). ys ++ k ∷ []) rows) in
-            ap (λ (d : Option ℕ). keys_of desk (keys_left k.desk more d)) gone ∙ ap (λ (d : ℕ). keys_of desk (without_key key_id more (pos (id_of d x.number)))) own ∙ ap (map keyed_job) left ∙ map_more xs k
+            ap (λ (d : Option ℕ). keyed_jobs_of desk (keys_but k.desk more d)) gone ∙ ap (λ (d : ℕ). keyed_jobs_of desk (without_key key_id more (pos (id_of d x.number)))) own ∙ ap (map keyed_job) left ∙ map_more xs k
             ∙ sym (ap (λ (ks : List KeyedJob). latest (one_more ks (keyed_job k))) all ∙ first_goes (keyed_job x) (map keyed_job xs) (keyed_job k) exact)
 
 -- the keys rise behind any change of them
@@ -243,7 +243,7 @@ pub noted_rise : (keys : List StoredKey) (key : Option NotedKey) → IsKeyedBy k
 noted_rise keys None rise = rise
 noted_rise keys (Some k) rise = dropped_rise k.key.desk (insert_by key_id keys k.key) k.dropped (IsKeyedBy-insert_by key_id keys k.key rise)
   where
-    dropped_rise : (desk : ℕ) (keys : List StoredKey) (dropped : Option ℕ) → IsKeyedBy key_id keys → IsKeyedBy key_id (keys_left desk keys dropped)
+    dropped_rise : (desk : ℕ) (keys : List StoredKey) (dropped : Option ℕ) → IsKeyedBy key_id keys → IsKeyedBy key_id (keys_but desk keys dropped)
     dropped_rise desk keys None rise = rise
     dropped_rise desk keys (Some n) rise = ascending-filter (λ a b. key_id a <ℤ key_id b) (λ y. not (int_eq (key_id y) (pos (id_of desk n)))) keys rise
 
@@ -257,12 +257,12 @@ module _ (P : StoredKey → Type 0) where
   all_noted keys None each here = each
   all_noted keys (Some k) each here = all_dropped k.key.desk (insert_by key_id keys k.key) k.dropped (all_insert P key_id keys k.key each here)
     where
-      all_dropped : (desk : ℕ) (keys : List StoredKey) (dropped : Option ℕ) → All P keys → All P (keys_left desk keys dropped)
+      all_dropped : (desk : ℕ) (keys : List StoredKey) (dropped : Option ℕ) → All P keys → All P (keys_but desk keys dropped)
       all_dropped desk keys None each = each
       all_dropped desk keys (Some n) each = all_without P key_id keys (pos (id_of desk n)) each
 
 -- keys of other desks stay
-pub others_kept : (desk : ℕ) (keys : List StoredKey) (key : Option NotedKey) → All IsNarrowKey keys → IsNarrowNoted key → IfNoted (λ k. k.desk ≢ desk) key → keys_of desk (keys_noted keys key) ≡ keys_of desk keys
+pub others_kept : (desk : ℕ) (keys : List StoredKey) (key : Option NotedKey) → All IsNarrowKey keys → IsNarrowNoted key → IfNoted (λ k. k.desk ≢ desk) key → keyed_jobs_of desk (keys_noted keys key) ≡ keyed_jobs_of desk keys
 others_kept desk keys None narrow fits other = refl
 others_kept desk keys (Some k) narrow fits other = dropped k.dropped fits.1 ∙ ap (map keyed_job) (others_insert desk keys k.key narrow fits.0.number apart)
   where
@@ -272,6 +272,6 @@ others_kept desk keys (Some k) narrow fits other = dropped k.dropped fits.1 ∙ 
     all_narrow : All IsNarrowKey (insert_by key_id keys k.key)
     all_narrow = all_insert IsNarrowKey key_id keys k.key narrow fits.0
 
-    dropped : (d : Option ℕ) → IsNarrowDropped d → keys_of desk (keys_left k.key.desk (insert_by key_id keys k.key) d) ≡ keys_of desk (insert_by key_id keys k.key)
+    dropped : (d : Option ℕ) → IsNarrowDropped d → keyed_jobs_of desk (keys_but k.key.desk (insert_by key_id keys k.key) d) ≡ keyed_jobs_of desk (insert_by key_id keys k.key)
     dropped None small = refl
     dropped (Some n) small = ap (map keyed_job) (others_without desk (insert_by key_id keys k.key) k.key.desk n all_narrow other small)

@@ -20,7 +20,7 @@ use Rattle.desk_records.specs.declared.stored_key.StoredKey.{StoredKey}
 use Rattle.desk_records.specs.declared.stored_outcome.StoredOutcome.{StoredOutcome}
 use Rattle.desk_records.specs.declared.stored_tenant.StoredTenant.{StoredTenant}
 use Rattle.desk_records.proofs.MadeLemmas.{all_insert}
-use Rattle.ledger_records.specs.ChangedRows.{is_among}
+use Rattle.ledger_records.specs.ChangedRows.{is_number_in}
 use Rattle.ledger_records.specs.LedgerRecords.{HasFewerJobs, HasFewerKeyed, HasFewerTaken, HasItsNumber, HasTaken, IsLedgerOf, desk_record, is_tenant, job_record, outcome_record, tenant_named}
 use Rattle.ledger_records.proofs.Finding.{all_left, desks_apart, find_put, get_put, left_others}
 use Rattle.ledger_records.proofs.Keys.{IfNoted, all_noted}
@@ -84,7 +84,7 @@ module _ (desk : ℕ) (l : Ledgers) (ledger : Ledger) (is : IsLedgerOf desk l le
     taken = record { few = is.taken.few; jobs = is.taken.jobs; desks = is.taken.desks; keys = is.taken.keys; last = is.taken.last };
   }
 
-  pub forgotten_elsewhere : (f : ForgottenJobs) → f.desk.desk ≢ desk → ((n : ℕ) → is_among n f.numbers.items ≡ true → n < most_numbers) → IsLedgerOf desk (made l (Forgotten f)) ledger
+  pub forgotten_elsewhere : (f : ForgottenJobs) → f.desk.desk ≢ desk → ((n : ℕ) → is_number_in n f.numbers.items ≡ true → n < most_numbers) → IsLedgerOf desk (made l (Forgotten f)) ledger
   forgotten_elsewhere f other few = record {
     granted = is.granted;
     spent = is.spent;

@@ -25,7 +25,7 @@ use Rattle.desk_records.specs.declared.stored_job.StoredJob.{StoredJob}
 use Rattle.desk_records.specs.declared.stored_outcome.StoredOutcome.{StoredOutcome}
 use Rattle.desk_records.specs.declared.stored_tenant.StoredTenant.{StoredTenant}
 use Rattle.ledger_records.specs.LedgerRecords.{CameTo, HasFewerJobs, StandsAs, is_tenant, spent_of}
-use Rattle.ledger_records.specs.SoFar.{EndsSoFar, GoesPastRow, HasAccounts, IsHeldIfOpen, IsOutcomeOf, IsRestoredFrom, IsSoFar, PutsRow, SplitsOutcome, StandsSoFar, is_held, with_outcome}
+use Rattle.ledger_records.specs.SoFar.{EndsSoFar, GoesPastRow, HasAccounts, IsHeldIfOpen, IsOutcomeOf, IsRestoredFrom, IsSoFar, PutsRow, SplitsOutcome, StandsSoFar, is_held, outcomes_with}
 use Rattle.ledger_records.specs.declared.restored_job.RestoredJob.{RestoredJob}
 use Rattle.ledger_records.proofs.Finding.{apart, desks_apart, get_last, get_other, itself, or_true}
 use Rattle.ledger_records.proofs.Forgetting.{get_none, past_end}
@@ -328,7 +328,7 @@ module _ (desk : ℕ) (tenants : List StoredTenant) (js : List StoredJob) (os : 
           let none : get_by stored_job_key js (pos (id_of desk r.number)) ≡ None = ap (get_by stored_job_key js) (sym key) ∙ (fresh later).0 in
           let there = from.is in absurd (cc (none, there))
 
-  other_row : (outcome : Option StoredOutcome) → row.desk ≢ desk → IsOutcomeOf row outcome → IsSoFar desk tenants (js ++ row ∷ []) (with_outcome os outcome) old rs
+  other_row : (outcome : Option StoredOutcome) → row.desk ≢ desk → IsOutcomeOf row outcome → IsSoFar desk tenants (js ++ row ∷ []) (outcomes_with os outcome) old rs
   other_row None other of =
       let both = job_passed desk tenants js os row old other small (is.stands, is.ends) in record {
         stands = both.0;
@@ -349,7 +349,7 @@ module _ (desk : ℕ) (tenants : List StoredTenant) (js : List StoredJob) (os : 
         };
       }
 
-  own_row : (outcome : Option StoredOutcome) (new : Ledger) (after : List RestoredJob) → row.desk ≡ desk → IsOutcomeOf row outcome → PutsRow row outcome old rs new after → IsSoFar desk tenants (js ++ row ∷ []) (with_outcome os outcome) new after
+  own_row : (outcome : Option StoredOutcome) (new : Ledger) (after : List RestoredJob) → row.desk ≡ desk → IsOutcomeOf row outcome → PutsRow row outcome old rs new after → IsSoFar desk tenants (js ++ row ∷ []) (outcomes_with os outcome) new after
   own_row None new after own of puts =
       let later : length old.jobs < row.number = omega (arith, puts.next) in
       let both = open_pushed desk tenants js os old puts.mid new puts.count row is.stands puts.adds puts.next puts.ends.0 own small in
@@ -391,10 +391,10 @@ module _ (desk : ℕ) (tenants : List StoredTenant) (js : List StoredJob) (os : 
         };
       })
 
-  pub row_done : (outcome : Option StoredOutcome) (new : Ledger) (after : List RestoredJob) → IsOutcomeOf row outcome → GoesPastRow desk row outcome old rs new after → IsSoFar desk tenants (js ++ row ∷ []) (with_outcome os outcome) new after
+  pub row_done : (outcome : Option StoredOutcome) (new : Ledger) (after : List RestoredJob) → IsOutcomeOf row outcome → GoesPastRow desk row outcome old rs new after → IsSoFar desk tenants (js ++ row ∷ []) (outcomes_with os outcome) new after
   row_done outcome new after of goes = elim goes [
-    | inl past ↦ subst (λ (led : Ledger). IsSoFar desk tenants (js ++ row ∷ []) (with_outcome os outcome) led after) (sym past.1)
-        (subst (λ (a : List RestoredJob). IsSoFar desk tenants (js ++ row ∷ []) (with_outcome os outcome) old a) (sym past.2) (other_row outcome past.0 of))
+    | inl past ↦ subst (λ (led : Ledger). IsSoFar desk tenants (js ++ row ∷ []) (outcomes_with os outcome) led after) (sym past.1)
+        (subst (λ (a : List RestoredJob). IsSoFar desk tenants (js ++ row ∷ []) (outcomes_with os outcome) old a) (sym past.2) (other_row outcome past.0 of))
     | inr own ↦ own_row outcome new after own.0 of own.1
   ]
 

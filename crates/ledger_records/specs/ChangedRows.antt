@@ -1,8 +1,7 @@
 -- The rows that the change of a desk changes.
-use Rattle.std.specs.Prelude.{ℕ, ◌≡◌, ◌+◌, ◌≤◌, ◌<◌, ◌==◌, Bool, true, List, [], ◌∷◌, ◌++◌, length, nat_lt, if◌then◌else◌, option_map, slice_get, slice_set, string_bytes, unwrap_or, Option, Some, None, Result}
+use Rattle.std.specs.Prelude.{ℕ, ◌≡◌, ◌+◌, ◌≤◌, ◌<◌, ◌==◌, Bool, true, List, [], ◌∷◌, ◌++◌, length, nat_lt, if◌then◌else◌, option_map, string_bytes, unwrap_or, Option, Some, None, Result}
 use Rattle.std.specs.List.{list_any}
 use Rattle.accounts.specs.Jobs.{settled, spent_by_job}
-use Rattle.accounts.specs.Ledgers.{granted_to}
 use Rattle.credit_book.specs.declared.book.Report.{Report}
 use Rattle.desk_journal.specs.Changes.{program_bytes}
 use Rattle.desk_journal.specs.Encodings.{list_bytes}
@@ -21,12 +20,10 @@ use Rattle.desk_records.specs.declared.stored_change.TakenJob.{TakenJob}
 use Rattle.desk_records.specs.declared.stored_job.StoredJob.{StoredJob}
 use Rattle.desk_records.specs.declared.stored_outcome.StoredOutcome.{StoredOutcome}
 use Rattle.desk_records.specs.declared.stored_tenant.StoredTenant.{StoredTenant}
-use Rattle.server_state.specs.Changing.{Makes, desk_of}
-use Rattle.server_state.specs.States.{DeskState}
 use Rattle.server_state.specs.declared.change.Change.{Change}
 use Rattle.server_state.specs.declared.change.Change.TheVariants.{Granted, Taken, Settled, Forgotten}
-use Rattle.ledger_records.specs.DeskRecords.{keys_of}
-use Rattle.ledger_records.specs.LedgerRecords.{CameTo, HasItsNumber, HasTaken, job_record, outcome_record, spent_of, tenant_named}
+use Rattle.ledger_records.specs.DeskRecords.{keyed_jobs_of}
+use Rattle.ledger_records.specs.LedgerRecords.{CameTo, HasItsNumber, HasTaken, job_record, outcome_record, tenant_named}
 
 -- the tenant's row behind a grant of so much
 pub record IsRowOfGrant (desk : ℕ) (l : Ledgers) (name : List ℕ) (amount : ℕ) (t : StoredTenant) :
@@ -50,7 +47,7 @@ IsRowOfKey desk l number None (Some noted) = ⊥
 IsRowOfKey desk l number (Some key) None = ⊥
 IsRowOfKey desk l number (Some key) (Some noted) =
     (noted.key ≡ record { desk = desk; number = number; key = key })
-    × (noted.dropped ≡ first_dropped (keys_of desk l.keys))
+    × (noted.dropped ≡ first_dropped (keyed_jobs_of desk l.keys))
 
 -- the rows of a job that is the desk's next one
 pub record AreRowsOfTaken (desk : ℕ) (l : Ledgers) (name : List ℕ) (key : Option (List ℕ))
@@ -77,8 +74,8 @@ pub record AreRowsOfEnd (desk : ℕ) (l : Ledgers) (number : ℕ) (outcome : Res
       ≡ record row { spent = row.spent + spent_by_job (settled job.credit outcome) }
   pub own : HasItsNumber l.tenants s.tenant
 
-abbrev pub is_among : ℕ → List ℕ → Bool
-is_among number = list_any (λ n. n == number)
+abbrev pub is_number_in : ℕ → List ℕ → Bool
+is_number_in number = list_any (λ n. n == number)
 
 -- the job of this number is over, and none of those behind the last that are forgotten
 pub record IsOverAhead (desk : ℕ) (l : Ledgers) (ahead number : ℕ) : Type 0 where
@@ -95,8 +92,8 @@ pub record AreRowsOfForgotten (desk : ℕ) (l : Ledgers) (ahead : ℕ) (f : Forg
   pub taken : (count : ℕ) → HasTaken desk l count → f.desk.taken ≡ count
   pub all : (number : ℕ) (o : StoredOutcome) → 1 ≤ number → number < most_numbers
       → number ≤ ahead → outcome_record l desk number ≡ Some o
-      → is_among number f.numbers.items ≡ true
-  pub over : (number : ℕ) → is_among number f.numbers.items ≡ true
+      → is_number_in number f.numbers.items ≡ true
+  pub over : (number : ℕ) → is_number_in number f.numbers.items ≡ true
       → IsOverAhead desk l ahead number
 
 -- the rows that a change of a desk changes in these records
@@ -113,32 +110,9 @@ AreRowsOf l (Settled id outcome) rows =
 AreRowsOf l (Forgotten desk ahead) rows =
     (f : ForgottenJobs) × (rows ≡ stored.Forgotten f) × AreRowsOfForgotten desk l ahead f
 
--- A tenant that is granted credit for the first time has spent nothing.
-abbrev pub IsFirstGrant : Change → DeskState → Type 0
-IsFirstGrant (Granted desk tenant amount) old =
-    granted_to old.ledger (string_bytes tenant) ≡ None
-    → spent_of old.ledger (string_bytes tenant) ≡ 0
-IsFirstGrant (Taken desk tenant key programs credit buffer) old = Unit {0}
-IsFirstGrant (Settled id outcome) old = Unit {0}
-IsFirstGrant (Forgotten desk ahead) old = Unit {0}
-
--- A change makes one desk of the other, and its rows are written.
-pub record IsRecorded (desks : List DeskState) (l : Ledgers) (c : Change) (rows : StoredChange)
-    (after : List DeskState) : Type 0 where
-  pub old : DeskState
-  pub was : slice_get desks (desk_of c) ≡ Some old
-  pub first : IsFirstGrant c old
-  pub new : DeskState
-  pub makes : Makes c old new
-  pub are : AreRowsOf l c rows
-  pub narrow : IsNarrowChange rows
-  pub is : after ≡ slice_set desks (desk_of c) new
-
--- changes of desks, one after the other, and the rows of each in the records that those before made
-pub data AreRecorded (desks : List DeskState) (l : Ledgers) : List Change → List StoredChange
-    → List DeskState → Type 0 where
-  none_yet : AreRecorded desks l [] [] desks
-  one_more : (changes : List Change) (all : List StoredChange) (mid : List DeskState) (c : Change)
-      (rows : StoredChange) (after : List DeskState)
-      → AreRecorded desks l changes all mid → IsRecorded mid (all_made l all) c rows after
-      → AreRecorded desks l (changes ++ c ∷ []) (all ++ rows ∷ []) after
+-- the rows of changes, each in the records that those before made
+pub data AreRowsOfAll (l : Ledgers) : List Change → List StoredChange → Type 0 where
+  no_rows : AreRowsOfAll l [] []
+  more_rows : (changes : List Change) (all : List StoredChange) (c : Change) (rows : StoredChange)
+      → AreRowsOfAll l changes all → AreRowsOf (all_made l all) c rows → IsNarrowChange rows
+      → AreRowsOfAll l (changes ++ c ∷ []) (all ++ rows ∷ [])

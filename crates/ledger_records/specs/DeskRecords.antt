@@ -15,13 +15,13 @@ abbrev pub keyed_job : StoredKey → KeyedJob
 keyed_job key = record { job = key.number; key = key.key }
 
 -- the keyed jobs of a desk, oldest first
-abbrev pub keys_of : ℕ → List StoredKey → List KeyedJob
-keys_of desk keys = map keyed_job (filter (is_key_of desk) keys)
+abbrev pub keyed_jobs_of : ℕ → List StoredKey → List KeyedJob
+keyed_jobs_of desk keys = map keyed_job (filter (is_key_of desk) keys)
 
 -- these are the records of the desk
 pub record IsDeskOf (desk : ℕ) (l : Ledgers) (state : DeskState) : Type 0 where
   pub ledger : IsLedgerOf desk l state.ledger
-  pub keys : state.keys ≡ keys_of desk l.keys
+  pub keys : state.keys ≡ keyed_jobs_of desk l.keys
   pub few : length state.keys ≤ 1000
 
 -- These are the records of the desks, each at its place. Their numbers are within what a row holds,

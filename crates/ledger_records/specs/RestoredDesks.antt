@@ -9,12 +9,12 @@ use Rattle.ledger_records.specs.SoFar.{AreOpenJobs}
 use Rattle.ledger_records.specs.declared.restored_desk.RestoredDesk.{RestoredDesk}
 
 -- the desk's plain state
-abbrev pub state_of : RestoredDesk → DeskState
-state_of r = record { ledger = r.desk; keys = r.keys.jobs }
+abbrev pub restored_state : RestoredDesk → DeskState
+restored_state r = record { ledger = r.desk; keys = r.keys.jobs }
 
 -- the desk at a place, from these records, with its open jobs
 pub record IsRestored (l : Ledgers) (place : ℕ) (r : RestoredDesk) : Type 0 where
-  pub desk : IsDeskOf place l (state_of r)
+  pub desk : IsDeskOf place l (restored_state r)
   pub jobs : AreOpenJobs place l.jobs l.outcomes r.open_jobs.items
 
 -- each desk is that of its place

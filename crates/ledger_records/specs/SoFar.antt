@@ -19,7 +19,7 @@ use Rattle.desk_records.specs.declared.stored_job.StoredJob.{StoredJob}
 use Rattle.desk_records.specs.declared.stored_key.StoredKey.{StoredKey}
 use Rattle.desk_records.specs.declared.stored_outcome.StoredOutcome.{StoredOutcome}
 use Rattle.desk_records.specs.declared.stored_tenant.StoredTenant.{StoredTenant}
-use Rattle.ledger_records.specs.DeskRecords.{keys_of}
+use Rattle.ledger_records.specs.DeskRecords.{keyed_jobs_of}
 use Rattle.ledger_records.specs.LedgerRecords.{CameTo, HasFewerJobs, HasFewerKeyed, StandsAs, is_row_of, is_tenant, spent_of}
 use Rattle.ledger_records.specs.declared.restored_job.RestoredJob.{RestoredJob}
 
@@ -97,9 +97,9 @@ abbrev pub IsOutcomeOf : StoredJob → Option StoredOutcome → Type 0
 IsOutcomeOf row None = Unit {0}
 IsOutcomeOf row (Some o) = (o.desk ≡ row.desk) × (o.number ≡ row.number) × (o.number < most_numbers)
 
-abbrev pub with_outcome : List StoredOutcome → Option StoredOutcome → List StoredOutcome
-with_outcome outcomes None = outcomes
-with_outcome outcomes (Some o) = outcomes ++ o ∷ []
+abbrev pub outcomes_with : List StoredOutcome → Option StoredOutcome → List StoredOutcome
+outcomes_with outcomes None = outcomes
+outcomes_with outcomes (Some o) = outcomes ++ o ∷ []
 
 -- the first of these outcomes is the job's, or none is taken
 abbrev pub SplitsOutcome : StoredJob → List StoredOutcome → Option StoredOutcome
@@ -141,8 +141,8 @@ pub record TellsMore (desk : ℕ) (desks : List StoredDesk) (old new : Ledger) :
   pub few : row.taken < most_numbers
 
 -- the same, unless the row tells of no more jobs than there are
-abbrev pub EndsTaken : ℕ → List StoredDesk → Ledger → Ledger → Type 0
-EndsTaken desk desks old new = (new ≡ old) ⊎ TellsMore desk desks old new
+abbrev pub TellsLast : ℕ → List StoredDesk → Ledger → Ledger → Type 0
+TellsLast desk desks old new = (new ≡ old) ⊎ TellsMore desk desks old new
 
 -- a desk that took so many jobs remembers the key of a row, if it is one of the desk
 abbrev pub NotesRow : ℕ → ℕ → StoredKey → List KeyedJob → List KeyedJob → Type 0
@@ -154,6 +154,6 @@ NotesRow desk count row old new =
 -- the desk remembers the keys of these rows
 pub record AreKeysSoFar (desk count : ℕ) (rows : List StoredKey) (keys : List KeyedJob) :
     Type 0 where
-  pub are : keys ≡ keys_of desk rows
+  pub are : keys ≡ keyed_jobs_of desk rows
   pub few : length keys ≤ 1000
   pub fewer : All (HasFewerKeyed desk count) rows

@@ -15,3 +15,8 @@ mod restoring;
 pub use restored_desk::{RestoredDesk, restore_desk};
 pub use restored_desks::restore_desks;
 pub use restored_job::RestoredJob;
+
+// the rows of changes
+mod written_rows;
+
+pub use written_rows::{outcome_written, programs_written};

@@ -4,7 +4,7 @@ ghost use Rattle.std.specs.Prelude.{◌≡◌, All, IfOk, IsTrue, OnOk, find, op
 ghost use Rattle.desk_records.specs.Stored.{AreNarrow};
 ghost use Rattle.ledger_records.specs.DeskRecords.{IsDeskOf};
 ghost use Rattle.ledger_records.specs.LedgerRecords.{HasFewerTaken, is_row_of};
-ghost use Rattle.ledger_records.specs.SoFar.{AreKeysSoFar, AreOpenJobs, EndsTaken, NotesRow};
+ghost use Rattle.ledger_records.specs.SoFar.{AreKeysSoFar, AreOpenJobs, TellsLast, NotesRow};
 
 use crate::restored_job::RestoredJob;
 use crate::restoring::{NO_MEMORY, damaged, restore_ledger};
@@ -52,7 +52,7 @@ fn tell_no_more(number: u16, desks: &[StoredDesk], count: u64) -> bool
 
 // Adds the forgotten jobs behind the last one that has a row.
 fn add_last(number: u16, desk: &mut Desk, desks: &[StoredDesk]) -> Result<(), LoadFault>
-    ensures { OnOk result (EndsTaken number desks.now desk.old desk.new) }
+    ensures { OnOk result (TellsLast number desks.now desk.old desk.new) }
 {
     let wrong = LoadFault::Damaged(StoreTable::Desk, i64::from(number));
     let Some(row) = desk_row(number, desks) else {
