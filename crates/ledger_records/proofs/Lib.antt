@@ -8,3 +8,4 @@ pub mod Chain
 pub mod SoFarLemmas
 pub mod DeskLemmas
 pub mod OrderLemmas
+pub mod TenantLemmas

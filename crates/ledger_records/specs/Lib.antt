@@ -3,3 +3,4 @@ pub mod DeskRecords
 pub mod ChangedRows
 pub mod SoFar
 pub mod RestoredDesks
+pub mod TenantRows

@@ -17,6 +17,8 @@ pub use restored_desks::restore_desks;
 pub use restored_job::RestoredJob;
 
 // the rows of changes
+mod tenant_rows;
 mod written_rows;
 
+pub use tenant_rows::TenantRows;
 pub use written_rows::{outcome_written, programs_written};
