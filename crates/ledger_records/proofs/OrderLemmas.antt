@@ -40,7 +40,7 @@ below_more xs x next id are is above = record {
   below = all_push (λ k. id_of k.desk k.number < id + 1) xs x (all_then (λ k. id_of k.desk k.number < next) (λ k. id_of k.desk k.number < id + 1) (λ k less. omega (arith, less, above)) xs are.below) (omega (arith, is));
 }
 
-pushed_at : {X : Type 0} (xs : List X) (x : X) (n : ℕ) (y : X) → slice_get (xs ++ x ∷ []) n ≡ Some y → (slice_get xs n ≡ Some y) ⊎ ((n ≡ length xs) × (x ≡ y))
+pub pushed_at : {X : Type 0} (xs : List X) (x : X) (n : ℕ) (y : X) → slice_get (xs ++ x ∷ []) n ≡ Some y → (slice_get xs n ≡ Some y) ⊎ ((n ≡ length xs) × (x ≡ y))
 pushed_at [] x zero y at = inr (refl, cc at)
 pushed_at [] x (suc n) y at = absurd (cc)
 pushed_at (z ∷ xs) x zero y at = inl at

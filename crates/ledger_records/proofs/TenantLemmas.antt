@@ -1,6 +1,8 @@
 -- A tenant's row has its number alone.
-use Rattle.std.proofs.Common.{◌≡◌, ◌+◌, ◌<◌, ◌==◌, ◌&&◌, ℕ, zero, suc, All, Bool, true, false, cond, List, [], ◌∷◌, find, length, get_or, slice_get, option_map, unwrap_or, Option, Some, None, refl, sym, ap, subst, ◌∙◌, arith}
+use Rattle.std.proofs.Common.{◌++◌, ◌⊎◌, pos, int_cmp, Less, Equal, inl, inr, slice_set, ◌≡◌, ◌+◌, ◌<◌, ◌==◌, ◌&&◌, ℕ, zero, suc, All, Bool, true, false, cond, List, [], ◌∷◌, find, length, get_or, slice_get, option_map, unwrap_or, Option, Some, None, refl, sym, ap, subst, ◌∙◌, arith}
 use Rattle.std.proofs.lemmas.Bool.Decides.{nat_tests}
+use Rattle.std.proofs.lemmas.Bool.{cases_eq}
+use Rattle.std.proofs.lemmas.Option.{slice_get_within, get_or_from_slice_get}
 use Rattle.std.proofs.lemmas.Slice.Eq.{bytes_eq-Decides}
 use Rattle.std.specs.Str.{bytes_eq}
 use Rattle.desk_records.specs.Stored.{Ledgers}
@@ -8,7 +10,12 @@ use Rattle.desk_records.specs.declared.stored_tenant.StoredTenant.{StoredTenant}
 use Rattle.ledger_records.specs.ChangedRows.{IsRowOfGrant}
 use Rattle.ledger_records.specs.LedgerRecords.{HasItsNumber, is_tenant, tenant_named}
 use Rattle.ledger_records.specs.TenantRows.{AreTenantRows}
-use Rattle.ledger_records.proofs.Finding.{tenant_found}
+use Rattle.sqlite_keyed.specs.Keyed.{insert_by}
+use Rattle.sqlite_keyed.proofs.KeyedLemmas.{Less-from_lt}
+use Rattle.std.proofs.lemmas.Int.{ints}
+use Rattle.desk_records.specs.Made.{tenant_key}
+use Rattle.ledger_records.proofs.Finding.{set_here, set_other, tenant_found}
+use Rattle.ledger_records.proofs.OrderLemmas.{pushed_at}
 
 there : {X : Type 0} (xs : List X) (k : ℕ) (d : X) → k < length xs → slice_get xs k ≡ Some (get_or xs k d)
 there [] k d within = absurd (omega (arith, within))
@@ -87,3 +94,97 @@ module _ (rows : List StoredTenant) (are : AreTenantRows rows) where
         spent = spent ∙ sym (ap (λ o. unwrap_or (option_map (λ (x : StoredTenant). x.spent) o) 0) found);
         numbered = subst (λ (ts : List StoredTenant). HasItsNumber ts t) (sym same) (new_number t mine number);
       }
+
+-- ---- rows that are put
+
+pub none_rows : AreTenantRows []
+none_rows = record { numbered = λ place t at. absurd (cc); apart = λ i j a b at there desk name. absurd (cc) }
+
+pub rows_more : (rows : List StoredTenant) (x : StoredTenant) → AreTenantRows rows → x.number ≡ length rows → find (is_tenant x.desk x.name) rows ≡ None → AreTenantRows (rows ++ x ∷ [])
+rows_more rows x are number none = record {
+  numbered = λ place t at. elim (pushed_at rows x place t at) [ inl before ↦ are.numbered place t before | inr last ↦ ap (λ (r : StoredTenant). r.number) (sym last.1) ∙ number ∙ sym last.0 ];
+  apart = λ i j a b at there desk name. both i j a b (pushed_at rows x i a at) (pushed_at rows x j b there) desk name;
+}
+  where
+    both : (i j : ℕ) (a b : StoredTenant) → (slice_get rows i ≡ Some a) ⊎ ((i ≡ length rows) × (x ≡ a)) → (slice_get rows j ≡ Some b) ⊎ ((j ≡ length rows) × (x ≡ b)) → a.desk ≡ b.desk → a.name ≡ b.name → i ≡ j
+    both i j a b (inl one) (inl two) desk name = are.apart i j a b one two desk name
+    both i j a b (inl one) (inr two) desk name =
+        absurd (found_none (is_tenant x.desk x.name) rows i a none one (tenant_test x.desk x.name a (desk ∙ ap (λ (r : StoredTenant). r.desk) (sym two.1)) (name ∙ ap (λ (r : StoredTenant). r.name) (sym two.1))))
+    both i j a b (inr one) (inl two) desk name =
+        absurd (found_none (is_tenant x.desk x.name) rows j b none two (tenant_test x.desk x.name b (sym desk ∙ ap (λ (r : StoredTenant). r.desk) (sym one.1)) (sym name ∙ ap (λ (r : StoredTenant). r.name) (sym one.1))))
+    both i j a b (inr one) (inr two) desk name = one.0 ∙ sym two.0
+
+-- numbers from a base on
+abbrev NumberedFrom : ℕ → List StoredTenant → Type 0
+NumberedFrom base rows = (place : ℕ) (t : StoredTenant) → slice_get rows place ≡ Some t → t.number ≡ base + place
+
+later : (base : ℕ) (y : StoredTenant) (ys : List StoredTenant) → NumberedFrom base (y ∷ ys) → NumberedFrom (base + 1) ys
+later base y ys numbered place t at = let n = numbered (suc place) t at in omega (arith, n)
+
+below : (y t : StoredTenant) → y.number < t.number → int_cmp (tenant_key y) (tenant_key t) ≡ Less
+below y t less = Less-from_lt (tenant_key y) (tenant_key t) (let l = less in grind (arith, ints, l))
+
+equal : (y t : StoredTenant) → y.number ≡ t.number → int_cmp (tenant_key y) (tenant_key t) ≡ Equal
+equal y t same = let k : tenant_key y ≡ tenant_key t = ap (λ (n : ℕ). pos n) same in grind (arith, ints, k)
+
+put_at : (base : ℕ) (rows : List StoredTenant) (t : StoredTenant) (place : ℕ) → NumberedFrom base rows → t.number ≡ base + place → place < length rows → insert_by tenant_key rows t ≡ slice_set rows place t
+put_at base [] t place numbered number within = absurd (omega (arith, within))
+put_at base (y ∷ ys) t zero numbered number within = let n = numbered zero y refl in rw (equal y t (omega (arith, n, number))) refl
+put_at base (y ∷ ys) t (suc place) numbered number within =
+    let n = numbered zero y refl in rw (below y t (omega (arith, n, number)), put_at (base + 1) ys t place (later base y ys numbered) (omega (arith, number)) (omega (arith, within))) refl
+
+put_last : (base : ℕ) (rows : List StoredTenant) (t : StoredTenant) → NumberedFrom base rows → t.number ≡ base + length rows → insert_by tenant_key rows t ≡ rows ++ t ∷ []
+put_last base [] t numbered number = refl
+put_last base (y ∷ ys) t numbered number = let n = numbered zero y refl in rw (below y t (omega (arith, n, number)), put_last (base + 1) ys t (later base y ys numbered) (omega (arith, number))) refl
+
+from_zero : (rows : List StoredTenant) → AreTenantRows rows → NumberedFrom 0 rows
+from_zero rows are place t at = let n = are.numbered place t at in omega (arith, n)
+
+pub put_in_place : (rows : List StoredTenant) (t : StoredTenant) → AreTenantRows rows → t.number < length rows → slice_set rows t.number t ≡ insert_by tenant_key rows t
+put_in_place rows t are within = sym (put_at 0 rows t t.number (from_zero rows are) (omega arith) within)
+
+pub put_behind : (rows : List StoredTenant) (t : StoredTenant) → AreTenantRows rows → t.number ≡ length rows → rows ++ t ∷ [] ≡ insert_by tenant_key rows t
+put_behind rows t are number = sym (put_last 0 rows t (from_zero rows are) (omega (arith, number)))
+
+module _ (rows : List StoredTenant) (t : StoredTenant) (are : AreTenantRows rows) (own : HasItsNumber rows t) where
+  alone_at : (j : ℕ) (b : StoredTenant) → slice_get rows j ≡ Some b → b.desk ≡ t.desk → b.name ≡ t.name → b.number ≡ t.number
+  alone_at j b at =
+      subst (λ (o : StoredTenant). o.desk ≡ t.desk → o.name ≡ t.name → o.number ≡ t.number) (get_or_from_slice_get rows j b b at) (own.alone j b (slice_get_within rows j b at))
+
+  -- a row of the same tenant has the place of the number
+  same_place : (j : ℕ) (b : StoredTenant) → slice_get rows j ≡ Some b → b.desk ≡ t.desk → b.name ≡ t.name → j ≡ t.number
+  same_place j b at desk name = sym (are.numbered j b at) ∙ alone_at j b at desk name
+
+  pub rows_pushed : t.number ≡ length rows → AreTenantRows (rows ++ t ∷ [])
+  rows_pushed number = rows_more rows t are number (none (find (is_tenant t.desk t.name) rows) refl)
+    where
+      none : (o : Option StoredTenant) → find (is_tenant t.desk t.name) rows ≡ o → find (is_tenant t.desk t.name) rows ≡ None
+      none None is = is
+      none (Some r) is =
+          let owner = tenant_found t.desk t.name rows r is in
+          let place = found_at (is_tenant t.desk t.name) rows r is in
+          let same = same_place place.0 r place.1 owner.0 owner.1 in
+          let low = slice_get_within rows place.0 r place.1 in
+          absurd (omega (arith, same, low, number))
+
+  set_cases : (i : ℕ) (x : StoredTenant) → t.number < length rows → slice_get (slice_set rows t.number t) i ≡ Some x → ((i ≡ t.number) × (x ≡ t)) ⊎ (slice_get rows i ≡ Some x)
+  set_cases i x within at = elim (cases_eq i t.number) [
+    | inl same ↦
+        let d = get_or rows t.number t in
+        let here : slice_get (slice_set rows t.number t) i ≡ Some t = ap (slice_get (slice_set rows t.number t)) same ∙ set_here rows t.number d t (there rows t.number t within) in
+        let one : Some t ≡ Some x = sym here ∙ at in
+        let is : t ≡ x = cc one in inl (same, sym is)
+    | inr other ↦ inr (sym (set_other rows t.number i t other) ∙ at)
+  ]
+
+  pub rows_set : t.number < length rows → AreTenantRows (slice_set rows t.number t)
+  rows_set within = record {
+    numbered = λ i x at. elim (set_cases i x within at) [ inl here ↦ ap (λ (r : StoredTenant). r.number) here.1 ∙ sym here.0 | inr elsewhere ↦ are.numbered i x elsewhere ];
+    apart = λ i j a b at there_b desk name. both i j a b (set_cases i a within at) (set_cases j b within there_b) desk name;
+  }
+    where
+      both : (i j : ℕ) (a b : StoredTenant) → ((i ≡ t.number) × (a ≡ t)) ⊎ (slice_get rows i ≡ Some a) → ((j ≡ t.number) × (b ≡ t)) ⊎ (slice_get rows j ≡ Some b) → a.desk ≡ b.desk → a.name ≡ b.name → i ≡ j
+      both i j a b (inl one) (inl two) desk name = one.0 ∙ sym two.0
+      both i j a b (inl one) (inr two) desk name = one.0 ∙ sym (same_place j b two (sym desk ∙ ap (λ (r : StoredTenant). r.desk) one.1) (sym name ∙ ap (λ (r : StoredTenant). r.name) one.1))
+      both i j a b (inr one) (inl two) desk name = same_place i a one (desk ∙ ap (λ (r : StoredTenant). r.desk) two.1) (name ∙ ap (λ (r : StoredTenant). r.name) two.1) ∙ sym two.0
+      both i j a b (inr one) (inr two) desk name = are.apart i j a b one two desk name

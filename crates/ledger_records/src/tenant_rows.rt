@@ -1,11 +1,13 @@
 //! The rows of tenants, by their names.
 
-ghost use Rattle.std.specs.Prelude.{◌≡◌, IfOk};
+ghost use Rattle.std.specs.Prelude.{◌≡◌, IfOk, None, OnOk, find, length, option_map, true};
 ghost use Rattle.desk_records.specs.Stored.{Ledgers};
 ghost use Rattle.ledger_records.specs.ChangedRows.{IsRowOfGrant};
 ghost use Rattle.ledger_records.specs.LedgerRecords.{is_tenant};
+ghost use Rattle.ledger_records.specs.TenantRows.{AreTenantRows};
 
 use desk_records::StoredTenant;
+use desk_store::{LoadFault, StoreTable};
 use sqlite_trees::error::StoreError;
 use sqlite_value::value::Bytes;
 use std::alloc::{AllocError, Global};
@@ -37,6 +39,41 @@ fn is_tenant(desk: u16, name: &[u8], row: &StoredTenant) -> bool
     row.desk == desk && row.name.as_slice() == name
 }
 
+// The row of the desk's tenant of this name among these, if it has one.
+fn row_among<'a>(rows: &'a [StoredTenant], desk: u16, name: &[u8]) -> Option<&'a StoredTenant>
+    ensures { option_map (λ t. t.now) result ≡ find (is_tenant desk name.now) rows.now }
+{
+    rows.iter().find(|row| is_tenant(desk, name, row))
+}
+
+// Whether a row has the next number behind others, and is that of another tenant.
+fn stands_behind(others: &[StoredTenant], row: &StoredTenant) -> bool
+    ensures { result ≡ true → (row.now.number ≡ length others.now)
+        × (find (is_tenant row.now.desk row.now.name) others.now ≡ None) }
+{
+    if row.number as usize != others.len() {
+        return false;
+    }
+    match row_among(others, row.desk, row.name.as_slice()) {
+        Some(_) => false,
+        None => true,
+    }
+}
+
+// The rows have to stand at the places of their numbers, and no tenant may have two.
+fn check_rows(rows: &[StoredTenant]) -> Result<(), LoadFault>
+    ensures { OnOk result (AreTenantRows rows.now) }
+{
+    for place in 0..rows.len() {
+        let (others, behind) = rows.split_at(place);
+        let row = &behind[0];
+        if !stands_behind(others, row) {
+            return Err(LoadFault::Damaged(StoreTable::Tenant, i64::from(row.number)));
+        }
+    }
+    Ok(())
+}
+
 // The bytes once more.
 fn copied(alloc: Global, bytes: &Bytes) -> Result<Bytes, AllocError>
     ensures { IfOk result (λ copy. copy ≡ bytes.now) }
@@ -45,13 +82,42 @@ fn copied(alloc: Global, bytes: &Bytes) -> Result<Bytes, AllocError>
 }
 
 impl TenantRows {
-    ghost use Rattle.std.specs.Prelude.{◌≡◌, IfOk, find, option_map, slice_get};
+    ghost use Rattle.std.specs.Prelude.{◌≡◌, ◌≤◌, IfOk, OnErr, OnOk, find, length, option_map, slice_get};
+    ghost use Rattle.sqlite_keyed.specs.Keyed.{insert_by};
+    ghost use Rattle.desk_records.specs.Made.{tenant_key};
+    ghost use Rattle.ledger_records.specs.LedgerRecords.{HasItsNumber};
+
+    /// All rows, as they are loaded. The first one that stands elsewhere, or is that of a tenant who
+    /// has one, is refused.
+    pub fn of(rows: Vec<StoredTenant>) -> Result<TenantRows, LoadFault>
+        ensures { IfOk result (λ t. t ≡ rows.items) }
+    {
+        check_rows(rows.as_slice())?;
+        Ok(TenantRows { rows })
+    }
+
+    /// Puts a tenant's row, in place of the one with its number.
+    pub fn put(&mut self, row: StoredTenant) -> Result<(), AllocError>
+        requires own { HasItsNumber self.old row }
+        requires next { row.number ≤ length self.old }
+        ensures ok { OnOk result (self.new ≡ insert_by tenant_key self.old row) }
+        ensures err { OnErr result (self.new ≡ self.old) }
+    {
+        let place = row.number as usize;
+        if place < self.rows.len() {
+            self.rows[place] = row;
+            return Ok(());
+        }
+        self.rows.reserve(1)?;
+        self.rows.push_reserved(row);
+        Ok(())
+    }
 
     /// The row of the desk's tenant of this name, if it has one.
     pub fn row_of(&self, desk: u16, name: &[u8]) -> Option<&StoredTenant>
         ensures { option_map (λ t. t.now) result ≡ find (is_tenant desk name.now) self.now }
     {
-        self.rows.iter().find(|row| is_tenant(desk, name, row))
+        row_among(self.rows.as_slice(), desk, name)
     }
 
     /// The desk and the name of the tenant whose row has this number, if there is one.
