@@ -15,7 +15,7 @@ use credit_book::{Progress, Report};
 use job_core::Job;
 use refusal::NoMemory;
 use seat_log::LogName;
-use server_state::{JobId, Jobs, RefusedStart};
+use server_state::{JobId, JobRunner, RefusedStart};
 use std::alloc::Global;
 use std::sync::Wait;
 
@@ -103,7 +103,7 @@ fn no_memory(job: Job) -> Result<(), RefusedStart>
     })
 }
 
-impl<R: Wait, W: JobWatch<R>, J: LogName> Jobs for JobPool<'_, R, W, J> {
+impl<R: Wait, W: JobWatch<R>, J: LogName> JobRunner for JobPool<'_, R, W, J> {
     ghost use Rattle.job_pool.specs.Holdings.{IsHeldJob, StartsJob, TakesHeldJob, held_job_at, looks_under, open_in};
     ghost use Rattle.job_pool.specs.SeatSteps.{CollectsJob, PutsJob};
     ghost use Rattle.std.specs.Prelude.{◌≡◌};

@@ -9,8 +9,8 @@ use Rattle.server_state.specs.Desks.{DeskReplies, refusal_frame}
 use Rattle.server_state.specs.Queries.{Destination, Query, desk_at, desk_query, goes, refused_by}
 use Rattle.server_state.specs.States.{DeskState, JobsSteps, ServerState}
 use Rattle.server_state.specs.declared.access.Access.{Access}
-use Rattle.server_state.specs.declared.change.Change.{Change}
-use Rattle.server_state.specs.declared.change.Changes.{Ghosts}
+use Rattle.server_state.specs.declared.change.DeskChange.{DeskChange}
+use Rattle.server_state.specs.declared.change.ChangeSink.{Ghosts}
 use Rattle.server_state.specs.declared.job_id.JobId.{JobId}
 use Rattle.server_handler.specs.DeskAnswers.{IsReply, RecordsAt}
 use Rattle.server_handler.specs.Serving.{NotesAmong}
@@ -35,7 +35,7 @@ set_twice (z ∷ xs) (suc i) x y = ap (λ ys. z ∷ ys) (set_twice xs i x y)
 
 -- ---- what is added
 
-lead_all : (place : ℕ) (desks : List DeskState) (d e : DeskState) (cs : List Change) → slice_get desks place ≡ Some d → Leads place d cs e → LeadAll desks cs (slice_set desks place e)
+lead_all : (place : ℕ) (desks : List DeskState) (d e : DeskState) (cs : List DeskChange) → slice_get desks place ≡ Some d → Leads place d cs e → LeadAll desks cs (slice_set desks place e)
 lead_all place desks d _ _ at changing.no_change = subst (λ (ds : List DeskState). LeadAll desks [] ds) (sym (set_same desks place d at)) no_change
 lead_all place desks d e _ at (changing.one_change cs mid c u before here makes) =
     let was = lead_all place desks d mid cs at before in
@@ -43,10 +43,10 @@ lead_all place desks d e _ at (changing.one_change cs mid c u before here makes)
     subst (λ (ds : List DeskState). LeadAll desks (cs ++ c ∷ []) ds) (ap (λ (i : ℕ). slice_set (slice_set desks place mid) i u) here ∙ set_twice desks place mid u)
     (one_change cs (slice_set desks place mid) c mid u was there makes)
 
-all_then : (a b e : List DeskState) (cs ds : List Change) → LeadAll a cs b → LeadAll b ds e → LeadAll a (cs ++ ds) e
-all_then a b _ cs _ first no_change = subst (λ (l : List Change). LeadAll a l b) (sym (append-nil cs)) first
+all_then : (a b e : List DeskState) (cs ds : List DeskChange) → LeadAll a cs b → LeadAll b ds e → LeadAll a (cs ++ ds) e
+all_then a b _ cs _ first no_change = subst (λ (l : List DeskChange). LeadAll a l b) (sym (append-nil cs)) first
 all_then a b e cs _ first (one_change ds desks c mid u before there makes) =
-    subst (λ (l : List Change). LeadAll a l (slice_set desks (desk_of c) u)) (append_assoc cs ds (c ∷ []))
+    subst (λ (l : List DeskChange). LeadAll a l (slice_set desks (desk_of c) u)) (append_assoc cs ds (c ∷ []))
     (one_change (cs ++ ds) desks c mid u (all_then a b desks cs ds first before) there makes)
 
 module _ {C : Type 0} (g : Ghosts C) where
@@ -56,7 +56,7 @@ module _ {C : Type 0} (g : Ghosts C) where
     adds = λ on. let x = first.adds (second.sound on) in let y = second.adds on in record {
       changes = x.changes ++ y.changes;
       lead = all_then a b e x.changes y.changes x.lead y.lead;
-      added = y.added ∙ ap (λ (l : List Change). l ++ y.changes) x.added ∙ append_assoc (g.added p) x.changes y.changes;
+      added = y.added ∙ ap (λ (l : List DeskChange). l ++ y.changes) x.added ∙ append_assoc (g.added p) x.changes y.changes;
     };
   }
 

@@ -6,18 +6,18 @@ use Rattle.sessions.specs.JobKeys.{noted}
 use Rattle.sessions.specs.declared.job_key.KeyedJob.{KeyedJob}
 use Rattle.server_state.specs.Changing.{AddsChanges, Leads, MakesAt, Records, desk_with, last_keyed, no_change, noted_each, one_change}
 use Rattle.server_state.specs.States.{DeskState}
-use Rattle.server_state.specs.declared.change.Change.{Change}
-use Rattle.server_state.specs.declared.change.Changes.{Ghosts}
+use Rattle.server_state.specs.declared.change.DeskChange.{DeskChange}
+use Rattle.server_state.specs.declared.change.ChangeSink.{Ghosts}
 use Rattle.server_handler.specs.Recording.{keyed_taken}
 
 pub noted_then : (keys ks ls : List KeyedJob) → noted_each keys (ks ++ ls) ≡ noted_each (noted_each keys ks) ls
 noted_then keys [] ls = refl
 noted_then keys (k ∷ ks) ls = noted_then (noted keys k.job k.key) ks ls
 
-pub leads_then : (place : ℕ) (d m e : DeskState) (cs ds : List Change) → Leads place d cs m → Leads place m ds e → Leads place d (cs ++ ds) e
-leads_then place d m _ cs _ first no_change = subst (λ (l : List Change). Leads place d l m) (sym (append-nil cs)) first
+pub leads_then : (place : ℕ) (d m e : DeskState) (cs ds : List DeskChange) → Leads place d cs m → Leads place m ds e → Leads place d (cs ++ ds) e
+leads_then place d m _ cs _ first no_change = subst (λ (l : List DeskChange). Leads place d l m) (sym (append-nil cs)) first
 leads_then place d m e cs _ first (one_change ds mid c u before here makes) =
-    subst (λ (l : List Change). Leads place d l u) (append_assoc cs ds (c ∷ [])) (one_change (cs ++ ds) mid c u (leads_then place d m mid cs ds first before) here makes)
+    subst (λ (l : List DeskChange). Leads place d l u) (append_assoc cs ds (c ∷ [])) (one_change (cs ++ ds) mid c u (leads_then place d m mid cs ds first before) here makes)
 
 -- ---- the key of a job that was taken
 
@@ -49,7 +49,7 @@ module _ {C : Type 0} (g : Ghosts C) (place : ℕ) where
     changes = first.changes ++ second.changes;
     leads = λ keys. subst (λ (l : List KeyedJob). Leads place (desk_with d keys) (first.changes ++ second.changes) (desk_with e l)) (sym (noted_then keys ks ls))
         (leads_then place (desk_with d keys) (desk_with m (noted_each keys ks)) (desk_with e (noted_each (noted_each keys ks) ls)) first.changes second.changes (first.leads keys) (second.leads (noted_each keys ks)));
-    added = second.added ∙ ap (λ (l : List Change). l ++ second.changes) first.added ∙ append_assoc (g.added p) first.changes second.changes;
+    added = second.added ∙ ap (λ (l : List DeskChange). l ++ second.changes) first.added ∙ append_assoc (g.added p) first.changes second.changes;
   }
 
   -- what is added first and then, with the keyed jobs of both
@@ -89,7 +89,7 @@ module _ {C : Type 0} (g : Ghosts C) (place : ℕ) where
   }
 
   -- a change is added
-  pub records_one : (p q : C) (d e : Ledger) (ks : List KeyedJob) (c : Change) → (g.sound q ≡ true → g.sound p ≡ true) → (g.sound q ≡ true → g.added q ≡ g.added p ++ c ∷ []) → MakesAt place c d e ks
+  pub records_one : (p q : C) (d e : Ledger) (ks : List KeyedJob) (c : DeskChange) → (g.sound q ≡ true → g.sound p ≡ true) → (g.sound q ≡ true → g.added q ≡ g.added p ++ c ∷ []) → MakesAt place c d e ks
       → Records g place p q d e ks
   records_one p q d e ks c sound added makes = record {
     sound = sound;

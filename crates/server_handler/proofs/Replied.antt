@@ -16,7 +16,7 @@ use Rattle.server_state.specs.Changing.{Leads, Records, desk_with, last_keyed, n
 use Rattle.server_state.specs.Desks.{DeskReplies, RepliesByKey, jobs_frame, keys_behind, looks_at, refusal_frame, starts_at, submit_frame}
 use Rattle.server_state.specs.Queries.{plain, keyed, jobs}
 use Rattle.server_state.specs.States.{DeskState, JobsSteps}
-use Rattle.server_state.specs.declared.change.Changes.{Ghosts}
+use Rattle.server_state.specs.declared.change.ChangeSink.{Ghosts}
 use Rattle.server_handler.specs.DeskAnswers.{IsReply, RepliesFromLedger, RecordsAt, desk_looks, desk_starts}
 use Rattle.server_handler.specs.Recording.{keyed_taken}
 use Rattle.server_handler.specs.declared.desk_jobs.DeskJobs.{DeskJobs}

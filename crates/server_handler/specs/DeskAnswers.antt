@@ -11,8 +11,8 @@ use Rattle.server_state.specs.Desks.{RepliesPlainly, refusal_frame}
 use Rattle.server_state.specs.Queries.{Query, plain, keyed, jobs}
 use Rattle.server_state.specs.States.{DeskState, JobsSteps, id_at}
 use Rattle.server_state.specs.Changing.{Leads}
-use Rattle.server_state.specs.declared.change.Change.{Change}
-use Rattle.server_state.specs.declared.change.Changes.{Ghosts}
+use Rattle.server_state.specs.declared.change.DeskChange.{DeskChange}
+use Rattle.server_state.specs.declared.change.ChangeSink.{Ghosts}
 use Rattle.server_handler.specs.declared.desk_jobs.DeskJobs.{DeskJobs}
 use Rattle.server_handler.specs.declared.desk_query.DeskQuery.{DeskQuery}
 use Rattle.server_handler.specs.declared.desk_query.DeskQuery.TheVariants.{Plain, Keyed, Jobs}
@@ -54,7 +54,7 @@ query_asked (Jobs from) = jobs from
 module _ {C : Type 0} (g : Ghosts C) where
   -- what was added leads from one state of the desk at a place to another, unless a change is missing
   pub record AddsAt (place : ℕ) (before after : C) (old new : DeskState) : Type 0 where
-    pub changes : List Change
+    pub changes : List DeskChange
     pub leads : Leads place old changes new
     pub added : g.added after ≡ g.added before ++ changes
 

@@ -14,7 +14,7 @@ use Rattle.server_state.specs.Changing.{RecordsAll}
 use Rattle.server_state.specs.Queries.{Query, plain, keyed, jobs}
 use Rattle.server_state.specs.States.{JobsSteps, ServerState}
 use Rattle.server_state.specs.declared.access.Access.{Access}
-use Rattle.server_state.specs.declared.change.Changes.{Ghosts}
+use Rattle.server_state.specs.declared.change.ChangeSink.{Ghosts}
 use Rattle.server_state.specs.declared.job_id.JobId.{JobId}
 use Rattle.server_handler.specs.Naming.{IsOwnNamed}
 

@@ -5,7 +5,7 @@ ghost use Rattle.server_state.specs.States.{id_at};
 
 use credit_book::{Progress, Report};
 use job_core::Job;
-use server_state::{JobId, Jobs};
+use server_state::{JobId, JobRunner};
 use std::alloc::Global;
 use streams::Runner;
 
@@ -18,7 +18,7 @@ pub struct DeskJobs<N> {
     pub desk: u16,
 }
 
-impl<N: Jobs> Runner for DeskJobs<N> {
+impl<N: JobRunner> Runner for DeskJobs<N> {
     ghost held = { λ d. N.held d.jobs };
 
     ghost ready = { λ d. N.ready d.jobs };

@@ -10,15 +10,15 @@ ghost use Rattle.server_handler.specs.Recording.{IsEndChange, IsForgetting, IsGr
 use accounts::{Account, Desk, DeskFault};
 use job_core::ProgramBytes;
 use refusal::NoMemory;
-use server_state::{Change, Changes, JobId};
+use server_state::{ChangeSink, DeskChange, JobId};
 use sessions::JobKey;
 use std::alloc::Global;
 
 /// Adds a change that was made. Without one, changes are missing from now on.
-pub fn add_made<C: Changes>(changes: &mut C, place: u16, made: Option<Change>)
+pub fn add_made<C: ChangeSink>(changes: &mut C, place: u16, made: Option<DeskChange>)
     ensures { (old new : Ledger) (keyed : List KeyedJob)
         → IfSome made (λ c. MakesAt place c old new keyed)
-        → Records C.Changes place changes.old changes.new old new keyed }
+        → Records C.ChangeSink place changes.old changes.new old new keyed }
 {
     match made {
         Some(change) => changes.add(change),
@@ -27,20 +27,20 @@ pub fn add_made<C: Changes>(changes: &mut C, place: u16, made: Option<Change>)
 }
 
 /// The change of a grant; none where changes are not kept, or where there is no memory.
-pub fn granted_change<C: Changes>(
+pub fn granted_change<C: ChangeSink>(
     alloc: Global,
     changes: &C,
     place: u16,
     tenant: &str,
     amount: u32,
-) -> Option<Change>
+) -> Option<DeskChange>
     ensures { IfSome result (λ c. IsGrant place c tenant.now amount) }
 {
     if !changes.are_kept() {
         return None;
     }
     match String::from_str(alloc, tenant) {
-        Ok(tenant) => Some(Change::Granted {
+        Ok(tenant) => Some(DeskChange::Granted {
             desk: place,
             tenant,
             amount,
@@ -54,8 +54,8 @@ pub fn granted_change<C: Changes>(
 pub fn sound_grant(
     before: Result<Account, DeskFault>,
     account: Account,
-    made: Option<Change>,
-) -> Option<Change>
+    made: Option<DeskChange>,
+) -> Option<DeskChange>
     ensures { IfSome result (λ c. (made ≡ Some c)
         × ((is_ok before ≡ true) ⊎ (account.spent ≡ 0))) }
 {
@@ -85,13 +85,13 @@ pub fn taken_change(
     programs: Vec<ProgramBytes>,
     credit: u32,
     buffer: Vec<u8>,
-) -> Result<Change, NoMemory>
+) -> Result<DeskChange, NoMemory>
     ensures { IfOk result (λ c. IsTaking place c (option_map (λ k. k.now) key.entry) tenant.now
         programs.items credit buffer.items) }
 {
     let key = key_text(alloc, key)?;
     let tenant = String::from_str(alloc, tenant)?;
-    Ok(Change::Taken {
+    Ok(DeskChange::Taken {
         desk: place,
         tenant,
         key,
@@ -103,12 +103,12 @@ pub fn taken_change(
 
 /// The change of a job that is over, by what its desk has of it; none where changes are not kept, or
 /// where there is no memory to share the report.
-pub fn settled_change<C: Changes>(
+pub fn settled_change<C: ChangeSink>(
     alloc: Global,
     changes: &C,
     desk: &mut Desk,
     id: JobId,
-) -> Option<Change>
+) -> Option<DeskChange>
     ensures settled { IfSome result (λ c. (old : Ledger) (outcome : Result Report ℕ)
         → Finishes old id.number outcome desk.old → MakesAt id.desk c old desk.old []) }
     ensures same { desk.new ≡ desk.old }
@@ -117,11 +117,11 @@ pub fn settled_change<C: Changes>(
         return None;
     }
     match desk.shared_result(alloc, id.number) {
-        Ok(Ok(report)) => Some(Change::Settled {
+        Ok(Ok(report)) => Some(DeskChange::Settled {
             id,
             outcome: Ok(report),
         }),
-        Ok(Err(DeskFault::Failed(code))) => Some(Change::Settled {
+        Ok(Err(DeskFault::Failed(code))) => Some(DeskChange::Settled {
             id,
             outcome: Err(code),
         }),
@@ -130,18 +130,18 @@ pub fn settled_change<C: Changes>(
 }
 
 /// The change of a job whose start was refused.
-pub fn failed_change(id: JobId, code: u8) -> Change
+pub fn failed_change(id: JobId, code: u8) -> DeskChange
     ensures { IsEndChange id.desk result id.number (Err code) }
 {
-    Change::Settled {
+    DeskChange::Settled {
         id,
         outcome: Err(code),
     }
 }
 
 /// The change of what a desk forgot.
-pub fn forgotten_change(place: u16, ahead: u64) -> Change
+pub fn forgotten_change(place: u16, ahead: u64) -> DeskChange
     ensures { IsForgetting place result ahead }
 {
-    Change::Forgotten { desk: place, ahead }
+    DeskChange::Forgotten { desk: place, ahead }
 }

@@ -1,13 +1,13 @@
 //! Changes that nobody keeps.
 
 use refusal::NoMemory;
-use server_state::{Change, Changes};
+use server_state::{ChangeSink, DeskChange};
 
 /// Keeps no change: a server without a file.
 #[derive(Drop)]
 pub struct NoStore;
 
-impl Changes for NoStore {
+impl ChangeSink for NoStore {
     ghost use Rattle.std.specs.Prelude.{[], false};
 
     ghost sound = { λ _. false };
@@ -22,7 +22,7 @@ impl Changes for NoStore {
         Ok(())
     }
 
-    fn add(&mut self, change: Change) {
+    fn add(&mut self, change: DeskChange) {
         drop(change);
     }
 

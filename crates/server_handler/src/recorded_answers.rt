@@ -13,7 +13,7 @@ use crate::made_changes::{add_made, forgotten_change, granted_change, sound_gran
 use crate::recorded_submit::{answer_admitted_recorded, answer_submit_recorded};
 use accounts::{Account, Desk, DeskFault, KeepLimits};
 use refusal::NoMemory;
-use server_state::Changes;
+use server_state::ChangeSink;
 use sessions::{JobKey, Request};
 use std::alloc::Global;
 use streams::{
@@ -22,7 +22,7 @@ use streams::{
 };
 
 /// Grants credit as the desk does, and adds that.
-pub fn grant_recorded<C: Changes>(
+pub fn grant_recorded<C: ChangeSink>(
     alloc: Global,
     desk: &mut Desk,
     changes: &mut C,
@@ -37,7 +37,7 @@ pub fn grant_recorded<C: Changes>(
     ensures account { IfOk result (λ _. result ≡ account_at desk.new tenant.now) }
     ensures refused { IfErr result (λ e. RefusesGrant desk.old tenant.now amount e) }
     ensures unchanged { OnErr result (desk.new ≡ desk.old) }
-    ensures records { Records C.Changes place changes.old changes.new desk.old desk.new [] }
+    ensures records { Records C.ChangeSink place changes.old changes.new desk.old desk.new [] }
 {
     let before = desk.account(tenant);
     let made = granted_change(alloc, changes, place, tenant, amount);
@@ -52,7 +52,7 @@ pub fn grant_recorded<C: Changes>(
 }
 
 // Grants, adds that, and tells the account as it is then.
-fn answer_grant_recorded<C: Changes>(
+fn answer_grant_recorded<C: ChangeSink>(
     alloc: Global,
     desk: &mut Desk,
     changes: &mut C,
@@ -63,7 +63,7 @@ fn answer_grant_recorded<C: Changes>(
     ensures done { Framed result (λ told. Grants desk.old tenant.now amount told desk.new
         ⊎ GrantsNone desk.old tenant.now amount told desk.new) }
     ensures count { length desk.new.jobs ≡ length desk.old.jobs }
-    ensures records { Records C.Changes place changes.old changes.new desk.old desk.new [] }
+    ensures records { Records C.ChangeSink place changes.old changes.new desk.old desk.new [] }
 {
     let account = grant_recorded(alloc, desk, changes, place, tenant, amount);
     PendingReply::of_reply(alloc, &account_reply(account))
@@ -71,7 +71,7 @@ fn answer_grant_recorded<C: Changes>(
 
 // Carries a request out and adds what it changes. Gives the frame of its reply, and why a job
 // that was asked for doesn't run.
-fn carry_out_recorded<N: Runner, C: Changes>(
+fn carry_out_recorded<N: Runner, C: ChangeSink>(
     alloc: Global,
     desk: &mut Desk,
     runner: &mut N,
@@ -87,7 +87,7 @@ fn carry_out_recorded<N: Runner, C: Changes>(
         (λ told. Replies N.starts N.looks desk.old runner.old
         (Ok (request_asked request)) told desk.new
         runner.new) }
-    ensures records { Records C.Changes place changes.old changes.new desk.old desk.new
+    ensures records { Records C.ChangeSink place changes.old changes.new desk.old desk.new
         (keyed_taken (option_map (λ k. k.now) key.entry) desk.old desk.new) }
 {
     match request {
@@ -111,7 +111,7 @@ fn carry_out_recorded<N: Runner, C: Changes>(
 
 /// Carries a request out and adds what it changes, or tells the number of its refusal. A job that
 /// is taken is added with the key that it came by. Ends of jobs are passed by the caller.
-pub fn reply_recorded<N: Runner, C: Changes>(
+pub fn reply_recorded<N: Runner, C: ChangeSink>(
     alloc: Global,
     desk: &mut Desk,
     runner: &mut N,
@@ -126,7 +126,7 @@ pub fn reply_recorded<N: Runner, C: Changes>(
     ensures done { Framed result.1
         (λ told. Replies N.starts N.looks desk.old runner.old (asked_of request) told desk.new
         runner.new) }
-    ensures records { Records C.Changes place changes.old changes.new desk.old desk.new
+    ensures records { Records C.ChangeSink place changes.old changes.new desk.old desk.new
         (keyed_taken (option_map (λ k. k.now) key.entry) desk.old desk.new) }
 {
     match request {
@@ -144,10 +144,10 @@ pub fn reply_recorded<N: Runner, C: Changes>(
 
 /// Has the desk forget until what it keeps is within the limits, and adds what it forgets, if
 /// anything.
-pub fn keep_recorded<C: Changes>(desk: &mut Desk, changes: &mut C, place: u16, keep: KeepLimits)
+pub fn keep_recorded<C: ChangeSink>(desk: &mut Desk, changes: &mut C, place: u16, keep: KeepLimits)
     ensures kept { KeepsWithin keep desk.old desk.new }
     ensures count { length desk.new.jobs ≡ length desk.old.jobs }
-    ensures records { Records C.Changes place changes.old changes.new desk.old desk.new [] }
+    ensures records { Records C.ChangeSink place changes.old changes.new desk.old desk.new [] }
 {
     let ahead = desk.keep_within(keep);
     if ahead > 0 {

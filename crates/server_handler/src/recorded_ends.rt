@@ -9,12 +9,12 @@ ghost use Rattle.server_state.specs.Changing.{Records};
 use crate::made_changes::{add_made, failed_change, settled_change};
 use accounts::Desk;
 use credit_book::Report;
-use server_state::{Changes, JobId};
+use server_state::{ChangeSink, JobId};
 use std::alloc::Global;
 use streams::SubmitRefusal;
 
 /// Ends a job, and adds that. The end of a job that is not open is passed over.
-pub fn end_job<C: Changes>(
+pub fn end_job<C: ChangeSink>(
     alloc: Global,
     desk: &mut Desk,
     changes: &mut C,
@@ -22,7 +22,7 @@ pub fn end_job<C: Changes>(
     outcome: Result<Report, u8>,
 )
     ensures noted { Notes desk.old id.number outcome desk.new }
-    ensures records { Records C.Changes id.desk changes.old changes.new desk.old desk.new [] }
+    ensures records { Records C.ChangeSink id.desk changes.old changes.new desk.old desk.new [] }
 {
     match desk.finish(id.number, outcome) {
         Ok(()) => {
@@ -34,9 +34,9 @@ pub fn end_job<C: Changes>(
 }
 
 /// Adds the end of a job whose start was refused.
-pub fn note_start<C: Changes>(changes: &mut C, place: u16, refusal: Option<SubmitRefusal>)
+pub fn note_start<C: ChangeSink>(changes: &mut C, place: u16, refusal: Option<SubmitRefusal>)
     ensures { (old new : Ledger) (number : ℕ) → TellsStart old number refusal new
-        → Records C.Changes place changes.old changes.new old new [] }
+        → Records C.ChangeSink place changes.old changes.new old new [] }
 {
     match refusal {
         Some(why) => match why {

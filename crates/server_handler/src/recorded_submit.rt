@@ -16,14 +16,14 @@ use crate::recorded_ends::note_start;
 use accounts::{Desk, SubmitFault};
 use job_core::{AdmitFault, Job, ProgramBytes};
 use refusal::NoMemory;
-use server_state::{Change, Changes};
+use server_state::{ChangeSink, DeskChange};
 use sessions::JobKey;
 use std::alloc::Global;
 use streams::{AdmittedSubmit, PendingReply, Runner, SubmitParts, SubmitRefusal, answer_taken};
 
 // The change of a job that was admitted, and room for it; none where changes are not kept. Want of
 // memory refuses the job.
-fn record_ahead<C: Changes>(
+fn record_ahead<C: ChangeSink>(
     alloc: Global,
     changes: &mut C,
     place: u16,
@@ -33,14 +33,14 @@ fn record_ahead<C: Changes>(
     credit: u32,
     admitted: Result<Job, AdmitFault>,
     copy: Result<Vec<u8>, NoMemory>,
-) -> Result<(Job, Option<Change>), AdmitFault>
+) -> Result<(Job, Option<DeskChange>), AdmitFault>
     ensures admission { (buffer : List ℕ) → IsAdmissionOf programs.items credit buffer admitted
         → IfOk copy (λ bytes. bytes.items ≡ buffer)
         → IsRecordedAdmission place (option_map (λ k. k.now) key.entry) tenant.now programs.items credit
         buffer result }
     ensures kept { IfOk result (λ made. made.1 ≡ None → C.sound changes.new ≡ false) }
     ensures records { (desk : Ledger)
-        → Records C.Changes place changes.old changes.new desk desk [] }
+        → Records C.ChangeSink place changes.old changes.new desk desk [] }
 {
     let job = match admitted {
         Ok(job) => job,
@@ -64,14 +64,14 @@ fn record_ahead<C: Changes>(
 }
 
 // Takes a job as the desk does, and adds that.
-fn take_recorded<C: Changes>(
+fn take_recorded<C: ChangeSink>(
     alloc: Global,
     desk: &mut Desk,
     changes: &mut C,
     place: u16,
     tenant: &str,
     credit: u32,
-    admission: Result<(Job, Option<Change>), AdmitFault>,
+    admission: Result<(Job, Option<DeskChange>), AdmitFault>,
 ) -> Result<(u64, Job), SubmitFault>
     ensures taken { OnOk result (Takes desk.old tenant.now credit desk.new) }
     ensures number { IfOk result (λ taken. taken.0 ≡ length desk.new.jobs) }
@@ -84,7 +84,7 @@ fn take_recorded<C: Changes>(
     ensures unchanged { OnErr result (desk.new ≡ desk.old) }
     ensures records { (key : Option (List ℕ)) (programs : List ProgramBytes) (buffer : List ℕ)
         → IsRecordedAdmission place key tenant.now programs credit buffer admission
-        → Records C.Changes place changes.old changes.new desk.old desk.new
+        → Records C.ChangeSink place changes.old changes.new desk.old desk.new
         (keyed_taken key desk.old desk.new) }
 {
     let (job, change) = match admission {
@@ -102,7 +102,7 @@ fn take_recorded<C: Changes>(
 
 // Starts a job that was taken, or tells why it was not. Adds the end of a job whose start was
 // refused.
-fn start_recorded<N: Runner, C: Changes>(
+fn start_recorded<N: Runner, C: ChangeSink>(
     alloc: Global,
     desk: &mut Desk,
     runner: &mut N,
@@ -119,7 +119,7 @@ fn start_recorded<N: Runner, C: Changes>(
         × (told ≡ submit_refused fault))) }
     ensures refusal { IfOk result.1 (λ frame. SaysRefusal desk.new result.0 frame) }
     ensures count { length desk.new.jobs ≡ length desk.old.jobs }
-    ensures records { Records C.Changes place changes.old changes.new desk.old desk.new [] }
+    ensures records { Records C.ChangeSink place changes.old changes.new desk.old desk.new [] }
 {
     match taken {
         Ok(job) => {
@@ -133,7 +133,7 @@ fn start_recorded<N: Runner, C: Changes>(
 
 /// Takes a job that was admitted or refused ahead, adds that with the key that it came by, starts
 /// it, and tells its number. Want of memory for the change refuses it by 99, behind 74 and 75.
-pub fn answer_admitted_recorded<N: Runner, C: Changes>(
+pub fn answer_admitted_recorded<N: Runner, C: ChangeSink>(
     alloc: Global,
     desk: &mut Desk,
     runner: &mut N,
@@ -147,7 +147,7 @@ pub fn answer_admitted_recorded<N: Runner, C: Changes>(
     ensures done { Framed result.1
         (λ told. Replies N.starts N.looks desk.old runner.old (Ok submit) told desk.new runner.new) }
     ensures refusal { TellsRefusal desk.new (Ok submit) result.0 result.1 }
-    ensures records { Records C.Changes place changes.old changes.new desk.old desk.new
+    ensures records { Records C.ChangeSink place changes.old changes.new desk.old desk.new
         (keyed_taken (option_map (λ k. k.now) key.entry) desk.old desk.new) }
 {
     let SubmitParts {
@@ -167,7 +167,7 @@ pub fn answer_admitted_recorded<N: Runner, C: Changes>(
 }
 
 /// The same of a job that is admitted now, unless the desk refuses it whatever it is.
-pub fn answer_submit_recorded<N: Runner, C: Changes>(
+pub fn answer_submit_recorded<N: Runner, C: ChangeSink>(
     alloc: Global,
     desk: &mut Desk,
     runner: &mut N,
@@ -185,7 +185,7 @@ pub fn answer_submit_recorded<N: Runner, C: Changes>(
         (Ok (submit_asked tenant programs.items credit buffer.items)) told desk.new runner.new) }
     ensures refusal { TellsRefusal desk.new
         (Ok (submit_asked tenant programs.items credit buffer.items)) result.0 result.1 }
-    ensures records { Records C.Changes place changes.old changes.new desk.old desk.new
+    ensures records { Records C.ChangeSink place changes.old changes.new desk.old desk.new
         (keyed_taken (option_map (λ k. k.now) key.entry) desk.old desk.new) }
 {
     match desk.may_submit(&tenant, credit) {

@@ -19,7 +19,7 @@ use crate::recorded_ends::end_job;
 use accounts::{Desk, KeepLimits};
 use credit_book::Report;
 use refusal::NoMemory;
-use server_state::{Changes, JobId, Jobs};
+use server_state::{ChangeSink, JobId, JobRunner};
 use sessions::{JobKey, KeyedJobs, Reply};
 use std::alloc::Global;
 use std::marker::Model;
@@ -62,7 +62,7 @@ impl ServedDesk {
     }
 
     /// Notes the end of a job, and adds that. The end of a job that is not open is passed over.
-    pub(crate) fn end<C: Changes>(
+    pub(crate) fn end<C: ChangeSink>(
         &mut self,
         alloc: Global,
         changes: &mut C,
@@ -70,7 +70,7 @@ impl ServedDesk {
         outcome: Result<Report, u8>,
     )
         ensures noted { NotesEnd id.number outcome self.old self.new }
-        ensures records { RecordsAt C.Changes id.desk changes.old changes.new self.old self.new }
+        ensures records { RecordsAt C.ChangeSink id.desk changes.old changes.new self.old self.new }
     {
         end_job(alloc, &mut self.ledger, changes, id, outcome);
     }
@@ -96,7 +96,7 @@ pub(crate) fn refuse(alloc: Global, code: u8) -> DeskReply
 }
 
 // Answers a request by the ledger, which then forgets, and adds what changes.
-fn answer_asked<N: Jobs, C: Changes>(
+fn answer_asked<N: JobRunner, C: ChangeSink>(
     alloc: Global,
     ledger: &mut Desk,
     runner: &mut DeskJobs<N>,
@@ -109,9 +109,9 @@ fn answer_asked<N: Jobs, C: Changes>(
     requires asked { (asked : Asked) × (asked_of request ≡ Ok asked) }
     ensures ready { N.ready runner.new.jobs }
     ensures place { runner.new.desk ≡ runner.old.desk }
-    ensures replies { IsReply result.1 (λ frame. RepliesFromLedger (steps_of N.Jobs) runner.old.desk
+    ensures replies { IsReply result.1 (λ frame. RepliesFromLedger (steps_of N.JobRunner) runner.old.desk
         keep ledger.old runner.old.jobs (asked_of request) frame ledger.new runner.new.jobs) }
-    ensures records { Records C.Changes runner.old.desk changes.old changes.new ledger.old ledger.new
+    ensures records { Records C.ChangeSink runner.old.desk changes.old changes.new ledger.old ledger.new
         (keyed_taken (option_map (λ k. k.now) key.entry) ledger.old ledger.new) }
 {
     let place = runner.desk;
@@ -121,7 +121,7 @@ fn answer_asked<N: Jobs, C: Changes>(
 }
 
 // The same; or returns the number of a refusal.
-fn answer_ledger<N: Jobs, C: Changes>(
+fn answer_ledger<N: JobRunner, C: ChangeSink>(
     alloc: Global,
     ledger: &mut Desk,
     runner: &mut DeskJobs<N>,
@@ -133,9 +133,9 @@ fn answer_ledger<N: Jobs, C: Changes>(
     requires { N.ready runner.old.jobs }
     ensures ready { N.ready runner.new.jobs }
     ensures place { runner.new.desk ≡ runner.old.desk }
-    ensures replies { IsReply result.1 (λ frame. RepliesFromLedger (steps_of N.Jobs) runner.old.desk
+    ensures replies { IsReply result.1 (λ frame. RepliesFromLedger (steps_of N.JobRunner) runner.old.desk
         keep ledger.old runner.old.jobs (asked_of request) frame ledger.new runner.new.jobs) }
-    ensures records { Records C.Changes runner.old.desk changes.old changes.new ledger.old ledger.new
+    ensures records { Records C.ChangeSink runner.old.desk changes.old changes.new ledger.old ledger.new
         (keyed_taken (option_map (λ k. k.now) key.entry) ledger.old ledger.new) }
 {
     match request {
@@ -152,7 +152,7 @@ fn answer_ledger<N: Jobs, C: Changes>(
 }
 
 // Answers a request of the plain protocol.
-fn answer_plain<N: Jobs, C: Changes>(
+fn answer_plain<N: JobRunner, C: ChangeSink>(
     alloc: Global,
     desk: &mut ServedDesk,
     runner: &mut DeskJobs<N>,
@@ -162,9 +162,9 @@ fn answer_plain<N: Jobs, C: Changes>(
 ) -> DeskReply
     requires { N.ready runner.old.jobs }
     ensures ready { N.ready runner.new.jobs }
-    ensures replies { IsReply result.1 (λ frame. DeskReplies (steps_of N.Jobs) runner.old.desk keep
+    ensures replies { IsReply result.1 (λ frame. DeskReplies (steps_of N.JobRunner) runner.old.desk keep
         desk.old runner.old.jobs (plain (asked_of request)) frame desk.new runner.new.jobs) }
-    ensures records { RecordsAt C.Changes runner.old.desk changes.old changes.new desk.old desk.new }
+    ensures records { RecordsAt C.ChangeSink runner.old.desk changes.old changes.new desk.old desk.new }
 {
     answer_ledger(
         alloc,
@@ -178,7 +178,7 @@ fn answer_plain<N: Jobs, C: Changes>(
 }
 
 // Answers a submit by a new key, which is remembered if the desk takes a job.
-fn answer_new_key<N: Jobs, C: Changes>(
+fn answer_new_key<N: JobRunner, C: ChangeSink>(
     alloc: Global,
     desk: &mut ServedDesk,
     runner: &mut DeskJobs<N>,
@@ -190,10 +190,10 @@ fn answer_new_key<N: Jobs, C: Changes>(
     requires ready { N.ready runner.old.jobs }
     requires unknown { job_among desk.old.keys key ≡ None }
     ensures ready { N.ready runner.new.jobs }
-    ensures replies { IsReply result.1 (λ frame. DeskReplies (steps_of N.Jobs) runner.old.desk keep
+    ensures replies { IsReply result.1 (λ frame. DeskReplies (steps_of N.JobRunner) runner.old.desk keep
         desk.old runner.old.jobs (keyed (Some key) (asked_of submit)) frame desk.new
         runner.new.jobs) }
-    ensures records { RecordsAt C.Changes runner.old.desk changes.old changes.new desk.old desk.new }
+    ensures records { RecordsAt C.ChangeSink runner.old.desk changes.old changes.new desk.old desk.new }
 {
     let before = desk.ledger.job_count();
     let told = answer_ledger(
@@ -213,7 +213,7 @@ fn answer_new_key<N: Jobs, C: Changes>(
 }
 
 // Answers a submit by a key. A key that is remembered returns its job once more.
-fn answer_keyed<N: Jobs, C: Changes>(
+fn answer_keyed<N: JobRunner, C: ChangeSink>(
     alloc: Global,
     desk: &mut ServedDesk,
     runner: &mut DeskJobs<N>,
@@ -224,10 +224,10 @@ fn answer_keyed<N: Jobs, C: Changes>(
 ) -> DeskReply
     requires { N.ready runner.old.jobs }
     ensures ready { N.ready runner.new.jobs }
-    ensures replies { IsReply result.1 (λ frame. DeskReplies (steps_of N.Jobs) runner.old.desk keep
+    ensures replies { IsReply result.1 (λ frame. DeskReplies (steps_of N.JobRunner) runner.old.desk keep
         desk.old runner.old.jobs (keyed (Some key) (asked_of submit)) frame desk.new
         runner.new.jobs) }
-    ensures records { RecordsAt C.Changes runner.old.desk changes.old changes.new desk.old desk.new }
+    ensures records { RecordsAt C.ChangeSink runner.old.desk changes.old changes.new desk.old desk.new }
 {
     match desk.keys.job_of(&key) {
         Some(job) => (None, PendingReply::of_reply(alloc, &Reply::Submit { job })),
@@ -258,7 +258,7 @@ fn list_jobs(alloc: Global, desk: &ServedDesk, from: u64) -> Result<PendingReply
 }
 
 /// The answer of a desk to a query, as if there were no other desk. What changes is added.
-pub(crate) fn answer_query<N: Jobs, C: Changes>(
+pub(crate) fn answer_query<N: JobRunner, C: ChangeSink>(
     alloc: Global,
     desk: &mut ServedDesk,
     runner: &mut DeskJobs<N>,
@@ -268,9 +268,9 @@ pub(crate) fn answer_query<N: Jobs, C: Changes>(
 ) -> DeskReply
     requires { N.ready runner.old.jobs }
     ensures ready { N.ready runner.new.jobs }
-    ensures replies { IsReply result.1 (λ frame. DeskReplies (steps_of N.Jobs) runner.old.desk keep
+    ensures replies { IsReply result.1 (λ frame. DeskReplies (steps_of N.JobRunner) runner.old.desk keep
         desk.old runner.old.jobs (query_asked query) frame desk.new runner.new.jobs) }
-    ensures records { RecordsAt C.Changes runner.old.desk changes.old changes.new desk.old desk.new }
+    ensures records { RecordsAt C.ChangeSink runner.old.desk changes.old changes.new desk.old desk.new }
 {
     match query {
         DeskQuery::Plain(request) => answer_plain(alloc, desk, runner, changes, keep, request),

@@ -17,7 +17,7 @@ use crate::served_desk::{DeskReply, ServedDesk, answer_query, refuse};
 use accounts::KeepLimits;
 use credit_book::Report;
 use job_core::Job;
-use server_state::{Access, Changes, JobId, Jobs};
+use server_state::{Access, ChangeSink, JobId, JobRunner};
 use sessions::Request;
 use std::alloc::Global;
 use std::collections::VecDeque;
@@ -36,7 +36,7 @@ pub struct WaitingJob {
 /// The first desk belongs to every tenant that has none of its own; behind it stands one desk for
 /// each name. The runner may be called. Contracts see the state of the server.
 #[derive(Drop)]
-pub struct Server<N: Jobs> {
+pub struct Server<N: JobRunner> {
     names: Vec<String>,
     keep: KeepLimits,
     desks: Vec<ServedDesk>,
@@ -44,7 +44,7 @@ pub struct Server<N: Jobs> {
     runner: DeskJobs<N>,
 }
 
-impl<N: Jobs> Model for Server<N> {
+impl<N: JobRunner> Model for Server<N> {
     ghost use Rattle.std.specs.Prelude.{◌≡◌, ◌≤◌, ◌+◌, length, map, string_bytes};
     ghost use Rattle.server_state.specs.States.{ServerState};
     ghost use Rattle.server_handler.specs.Serving.{waiting_job};
@@ -64,7 +64,7 @@ impl<N: Jobs> Model for Server<N> {
 }
 
 // Notes the end of a job at its desk, and adds that.
-fn note_end<C: Changes>(
+fn note_end<C: ChangeSink>(
     alloc: Global,
     desks: &mut Vec<ServedDesk>,
     changes: &mut C,
@@ -72,7 +72,7 @@ fn note_end<C: Changes>(
     outcome: Result<Report, u8>,
 )
     ensures noted { NotesAmong desks.old.items id outcome desks.new.items }
-    ensures records { RecordsAll C.Changes changes.old changes.new desks.old.items desks.new.items }
+    ensures records { RecordsAll C.ChangeSink changes.old changes.new desks.old.items desks.new.items }
     ensures count { length desks.new.items ≡ length desks.old.items }
 {
     let place = usize::from(id.desk);
@@ -83,7 +83,7 @@ fn note_end<C: Changes>(
 }
 
 // Takes each job that is over from the runner, and notes its end at its desk.
-fn collect_ends<N: Jobs, C: Changes>(
+fn collect_ends<N: JobRunner, C: ChangeSink>(
     alloc: Global,
     desks: &mut Vec<ServedDesk>,
     jobs: &mut N,
@@ -92,9 +92,9 @@ fn collect_ends<N: Jobs, C: Changes>(
     requires { N.ready jobs.old }
     ensures ready { N.ready jobs.new }
     ensures collected { (s : ServerState N) → (ends : List (JobId × Result Report ℕ))
-        × Collects (steps_of N.Jobs) (record s { desks = desks.old.items; jobs = jobs.old }) ends
+        × Collects (steps_of N.JobRunner) (record s { desks = desks.old.items; jobs = jobs.old }) ends
         (record s { desks = desks.new.items; jobs = jobs.new }) }
-    ensures records { RecordsAll C.Changes changes.old changes.new desks.old.items desks.new.items }
+    ensures records { RecordsAll C.ChangeSink changes.old changes.new desks.old.items desks.new.items }
     ensures count { length desks.new.items ≡ length desks.old.items }
 {
     'jobs: loop {
@@ -106,7 +106,7 @@ fn collect_ends<N: Jobs, C: Changes>(
 }
 
 // Answers a query at the desk that it goes to.
-fn answer_among<N: Jobs, C: Changes>(
+fn answer_among<N: JobRunner, C: ChangeSink>(
     alloc: Global,
     names: &[String],
     keep: KeepLimits,
@@ -121,10 +121,10 @@ fn answer_among<N: Jobs, C: Changes>(
     requires desks { length desks.old.items ≡ length names.now + 1 }
     ensures ready { N.ready runner.new.jobs }
     ensures replies { (s : ServerState N) → s.names ≡ map string_bytes names.now → s.keep ≡ keep
-        → IsReply result.1 (λ frame. ServerAnswers (steps_of N.Jobs)
+        → IsReply result.1 (λ frame. ServerAnswers (steps_of N.JobRunner)
         (record s { desks = desks.old.items; jobs = runner.old.jobs }) access (query_asked query)
         frame (record s { desks = desks.new.items; jobs = runner.new.jobs })) }
-    ensures records { RecordsAll C.Changes changes.old changes.new desks.old.items desks.new.items }
+    ensures records { RecordsAll C.ChangeSink changes.old changes.new desks.old.items desks.new.items }
     ensures count { length desks.new.items ≡ length desks.old.items }
 {
     let place = match desk_for(names, access, &query) {
@@ -137,13 +137,17 @@ fn answer_among<N: Jobs, C: Changes>(
 }
 
 // Starts the first job that waits. A job that is refused waits behind the others.
-fn begin_first<N: Jobs>(alloc: Global, waiting: &mut VecDeque<WaitingJob>, jobs: &mut N) -> bool
+fn begin_first<N: JobRunner>(
+    alloc: Global,
+    waiting: &mut VecDeque<WaitingJob>,
+    jobs: &mut N,
+) -> bool
     requires { N.ready jobs.old }
     ensures ready { N.ready jobs.new }
     ensures none { waiting.old.items ≡ [] → (waiting.new.items ≡ []) × (jobs.new ≡ jobs.old)
         × (result ≡ false) }
     ensures begun { (s : ServerState N) → (waiting.old.items ≡ [] → ⊥)
-        → BeginsOr result (steps_of N.Jobs)
+        → BeginsOr result (steps_of N.JobRunner)
         (record s { waiting = map waiting_job waiting.old.items; jobs = jobs.old })
         (record s { waiting = map waiting_job waiting.new.items; jobs = jobs.new }) }
 {
@@ -163,7 +167,7 @@ fn begin_first<N: Jobs>(alloc: Global, waiting: &mut VecDeque<WaitingJob>, jobs:
     }
 }
 
-impl<N: Jobs> Server<N> {
+impl<N: JobRunner> Server<N> {
     ghost use Rattle.std.specs.Prelude.{◌≡◌, ◌≤◌, ◌+◌, ℕ, List, [], Result, false, length, map, string_bytes};
     ghost use Rattle.credit_book.specs.declared.book.Report.{Report};
     ghost use Rattle.server_state.specs.declared.job_id.JobId.{JobId};
@@ -206,25 +210,25 @@ impl<N: Jobs> Server<N> {
 
     /// Takes each job that is over from the runner, and notes its end at its desk. What changes is
     /// added.
-    pub fn collect<C: Changes>(&mut self, alloc: Global, changes: &mut C)
+    pub fn collect<C: ChangeSink>(&mut self, alloc: Global, changes: &mut C)
         ensures collected { (ends : List (JobId × Result Report ℕ))
-            × Collects (steps_of N.Jobs) self.old ends self.new }
-        ensures records { RecordsAll C.Changes changes.old changes.new self.old.desks self.new.desks }
+            × Collects (steps_of N.JobRunner) self.old ends self.new }
+        ensures records { RecordsAll C.ChangeSink changes.old changes.new self.old.desks self.new.desks }
     {
         collect_ends(alloc, &mut self.desks, &mut self.runner.jobs, changes);
     }
 
     /// The answer to a query of a connection with this access. What changes is added.
-    pub fn answer<C: Changes>(
+    pub fn answer<C: ChangeSink>(
         &mut self,
         alloc: Global,
         changes: &mut C,
         access: Access,
         query: DeskQuery,
     ) -> DeskReply
-        ensures replies { IsReply result.1 (λ frame. ServerAnswers (steps_of N.Jobs) self.old access
+        ensures replies { IsReply result.1 (λ frame. ServerAnswers (steps_of N.JobRunner) self.old access
             (query_asked query) frame self.new) }
-        ensures records { RecordsAll C.Changes changes.old changes.new self.old.desks self.new.desks }
+        ensures records { RecordsAll C.ChangeSink changes.old changes.new self.old.desks self.new.desks }
     {
         answer_among(
             alloc,
@@ -273,7 +277,7 @@ impl<N: Jobs> Server<N> {
     pub fn begin_waiting(&mut self, alloc: Global) -> bool
         ensures none { self.old.waiting ≡ [] → (self.new ≡ self.old) × (result ≡ false) }
         ensures begun { (self.old.waiting ≡ [] → ⊥)
-            → BeginsOr result (steps_of N.Jobs) self.old self.new }
+            → BeginsOr result (steps_of N.JobRunner) self.old self.new }
     {
         begin_first(alloc, &mut self.waiting, &mut self.runner.jobs)
     }

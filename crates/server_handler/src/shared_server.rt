@@ -9,7 +9,7 @@ use crate::desk_query::DeskQuery;
 use crate::server::Server;
 use refusal::NoMemory;
 use server_log::{ServerLog, tell_answer};
-use server_state::{Access, Changes, Jobs};
+use server_state::{Access, ChangeSink, JobRunner};
 use sessions::{DoorForm, Request};
 use shared_desk::{Door, Passage, SharedHandler};
 use std::alloc::Global;
@@ -87,13 +87,14 @@ impl<'a, R, C: Drop> ServerHandler<'a, R, C> {
     }
 }
 
-impl<R: Wait + Clock, N: Jobs, C: Changes> SharedHandler<Server<N>> for ServerHandler<'_, R, C> {
+impl<R: Wait + Clock, N: JobRunner, C: ChangeSink> SharedHandler<Server<N>>
+    for ServerHandler<'_, R, C> {
     ghost use Rattle.server_state.specs.States.{steps_of};
     ghost use Rattle.server_handler.specs.Shared.{AnswersShared};
 
     ghost ready = { λ _. Unit {0} };
 
-    ghost answers = { AnswersShared (steps_of N.Jobs) C.Changes };
+    ghost answers = { AnswersShared (steps_of N.JobRunner) C.ChangeSink };
 
     fn wants_admission(&self, server: &Server<N>, passage: Passage, request: &Request) -> bool {
         server.wants_admission(access_of(passage), request)

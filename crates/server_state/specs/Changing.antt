@@ -5,12 +5,12 @@ use Rattle.job_core.specs.Admitted.{AdmittedJob}
 use Rattle.accounts.specs.Ledgers.{Ledger, Finishes, Forgets, GrantsMore, Takes, granted_to, past_of, spent_by_jobs}
 use Rattle.sessions.specs.JobKeys.{noted}
 use Rattle.sessions.specs.declared.job_key.KeyedJob.{KeyedJob}
-use Rattle.server_state.specs.declared.change.Change.{Change}
-use Rattle.server_state.specs.declared.change.Change.TheVariants.{Granted, Taken, Settled, Forgotten}
-use Rattle.server_state.specs.declared.change.Changes.{Ghosts}
+use Rattle.server_state.specs.declared.change.DeskChange.{DeskChange}
+use Rattle.server_state.specs.declared.change.DeskChange.TheVariants.{Granted, Taken, Settled, Forgotten}
+use Rattle.server_state.specs.declared.change.ChangeSink.{Ghosts}
 use Rattle.server_state.specs.States.{DeskState}
 
-abbrev pub desk_of : Change → ℕ
+abbrev pub desk_of : DeskChange → ℕ
 desk_of (Granted desk tenant amount) = desk
 desk_of (Taken desk tenant key programs credit buffer) = desk
 desk_of (Settled id outcome) = id.desk
@@ -32,7 +32,7 @@ SpentNothing ledger name = granted_to ledger name ≡ None
     → past_of ledger name + spent_by_jobs ledger.jobs name ≡ 0
 
 -- what a change makes of its desk
-abbrev pub Makes : Change → DeskState → DeskState → Type 0
+abbrev pub Makes : DeskChange → DeskState → DeskState → Type 0
 Makes (Granted desk tenant amount) old new =
     GrantsMore old.ledger (string_bytes tenant) amount new.ledger × (new.keys ≡ old.keys)
     × SpentNothing old.ledger (string_bytes tenant)
@@ -46,16 +46,16 @@ Makes (Forgotten desk ahead) old new =
     Forgets old.ledger ahead new.ledger × (new.keys ≡ old.keys)
 
 -- changes of the desk at this place lead from one state of it to another
-pub data Leads (place : ℕ) (old : DeskState) : List Change → DeskState → Type 0 where
+pub data Leads (place : ℕ) (old : DeskState) : List DeskChange → DeskState → Type 0 where
   no_change : Leads place old [] old
-  one_change : (changes : List Change) (mid : DeskState) (c : Change) (new : DeskState)
+  one_change : (changes : List DeskChange) (mid : DeskState) (c : DeskChange) (new : DeskState)
       → Leads place old changes mid → desk_of c ≡ place → Makes c mid new
       → Leads place old (changes ++ c ∷ []) new
 
 -- changes lead from these desks to those
-pub data LeadAll (old : List DeskState) : List Change → List DeskState → Type 0 where
+pub data LeadAll (old : List DeskState) : List DeskChange → List DeskState → Type 0 where
   no_change : LeadAll old [] old
-  one_change : (changes : List Change) (desks : List DeskState) (c : Change) (mid new : DeskState)
+  one_change : (changes : List DeskChange) (desks : List DeskState) (c : DeskChange) (mid new : DeskState)
       → LeadAll old changes desks → slice_get desks (desk_of c) ≡ Some mid → Makes c mid new
       → LeadAll old (changes ++ c ∷ []) (slice_set desks (desk_of c) new)
 
@@ -64,7 +64,7 @@ desk_with ledger keys = record { ledger = ledger; keys = keys }
 
 -- the change at a place makes the one ledger of the other, with these keyed jobs, whatever keys were
 -- remembered
-abbrev pub MakesAt : ℕ → Change → Ledger → Ledger → List KeyedJob → Type 0
+abbrev pub MakesAt : ℕ → DeskChange → Ledger → Ledger → List KeyedJob → Type 0
 MakesAt place c old new keyed =
     (desk_of c ≡ place)
     × ((keys : List KeyedJob) → Makes c (desk_with old keys) (desk_with new (noted_each keys keyed)))
@@ -74,7 +74,7 @@ module _ {C : Type 0} (g : Ghosts C) where
   -- whatever keys were remembered.
   pub record AddsChanges (place : ℕ) (before after : C) (old new : Ledger)
       (keyed : List KeyedJob) : Type 0 where
-    pub changes : List Change
+    pub changes : List DeskChange
     pub leads : (keys : List KeyedJob)
         → Leads place (desk_with old keys) changes (desk_with new (noted_each keys keyed))
     pub added : g.added after ≡ g.added before ++ changes
@@ -87,7 +87,7 @@ module _ {C : Type 0} (g : Ghosts C) where
 
   -- What was added leads from these desks to those.
   pub record AddsAll (before after : C) (old new : List DeskState) : Type 0 where
-    pub changes : List Change
+    pub changes : List DeskChange
     pub lead : LeadAll old changes new
     pub added : g.added after ≡ g.added before ++ changes
 

@@ -7,7 +7,7 @@ use Rattle.accounts.specs.Ledgers.{Ledger}
 use Rattle.accounts.specs.declared.keep_limits.KeepLimits.{KeepLimits}
 use Rattle.sessions.specs.declared.job_key.KeyedJob.{KeyedJob}
 use Rattle.server_state.specs.declared.job_id.JobId.{JobId}
-use Rattle.server_state.specs.declared.jobs.Jobs.{Ghosts}
+use Rattle.server_state.specs.declared.jobs.JobRunner.{Ghosts}
 
 -- A desk: its accounts and jobs, and the keyed jobs that it remembers, oldest first.
 pub record DeskState : Type 0 where

@@ -1,7 +1,7 @@
 //! The changes of desks, as a store keeps them.
 
 ghost use Rattle.std.specs.Prelude.{◌≡◌, ◌++◌, ◌∷◌, [], Bool, List, false, true};
-ghost use Rattle.server_state.specs.declared.change.Change.{Change};
+ghost use Rattle.server_state.specs.declared.change.DeskChange.{DeskChange};
 
 use crate::job_id::JobId;
 use accounts::SharedReport;
@@ -10,7 +10,7 @@ use refusal::NoMemory;
 
 /// A change of a desk.
 #[derive(Drop)]
-pub enum Change {
+pub enum DeskChange {
     /// A tenant was granted credit.
     Granted {
         desk: u16,
@@ -39,12 +39,12 @@ pub enum Change {
 }
 
 /// Takes the changes of desks, in order. Once one is missing it is not sound any more, for good.
-pub trait Changes {
+pub trait ChangeSink {
     // It has taken each change.
     ghost sound: { Self → Bool };
 
     // The changes that it has taken.
-    ghost added: { Self → List Change };
+    ghost added: { Self → List DeskChange };
 
     /// Whether it takes changes at all.
     fn are_kept(&self) -> bool
@@ -56,7 +56,7 @@ pub trait Changes {
         ensures same { added self.new ≡ added self.old };
 
     /// Takes a change behind the others.
-    fn add(&mut self, change: Change)
+    fn add(&mut self, change: DeskChange)
         ensures sound { sound self.new ≡ true → sound self.old ≡ true }
         ensures added { sound self.new ≡ true → added self.new ≡ added self.old ++ change ∷ [] };
 

@@ -20,7 +20,7 @@ pub struct RefusedStart {
 }
 
 /// Runs the jobs of all desks, within limits of its own.
-pub trait Jobs {
+pub trait JobRunner {
     // How many jobs it holds: those that were started and not yet taken.
     ghost held: { Self → ℕ };
 

@@ -12,25 +12,25 @@ ghost use Rattle.server_state.specs.Histories.{ServerEvent, Happens};
 ghost use Rattle.server_state.specs.Keyed.{AreKeyed};
 ghost use Rattle.server_state.specs.States.{DeskState, ServerState, steps_of};
 
-use crate::jobs::Jobs;
+use crate::jobs::JobRunner;
 
 /// Each tenant has a server to itself. The part of every history that goes to a desk is a history
 /// of the server that has this desk and no other, under the same relation, and it leads to the desk
 /// as it is. Only the steps of the runner of all jobs show what others do.
-pub fn each_tenant_is_alone<N: Jobs>()
+pub fn each_tenant_is_alone<N: JobRunner>()
     ensures { (first s : ServerState N) (events : List ServerEvent) (place : ℕ) (begun desk : DeskState)
-        → Happens (steps_of N.Jobs) first events s
+        → Happens (steps_of N.JobRunner) first events s
         → slice_get first.desks place ≡ Some begun → slice_get s.desks place ≡ Some desk
-        → HasServerAlone (steps_of N.Jobs) place first begun events s desk }
+        → HasServerAlone (steps_of N.JobRunner) place first begun events s desk }
 {}
 
 /// One key, one job, at each desk of any server. A desk remembers the last 1,000 keyed jobs of its
 /// part of the history, behind those that it began with. A submit by one of these keys is sent that
 /// key's job. One by a new key is sent the number of a job, which has the key from then on, or a
 /// refusal.
-pub fn one_key_one_job<N: Jobs>()
+pub fn one_key_one_job<N: JobRunner>()
     ensures { (first s : ServerState N) (events : List ServerEvent) (place : ℕ) (begun desk : DeskState)
-        → Happens (steps_of N.Jobs) first events s
+        → Happens (steps_of N.JobRunner) first events s
         → slice_get first.desks place ≡ Some begun → begun.keys ≡ latest begun.keys
         → slice_get s.desks place ≡ Some desk
         → (keyed_jobs : List KeyedJob)
@@ -42,10 +42,10 @@ pub fn one_key_one_job<N: Jobs>()
 /// the same is sent, or how far a job is. The same happens where the same is asked, the starts of
 /// its jobs come to the same, and its jobs end the same. Neither history forgets a report, or
 /// refuses for want of memory.
-pub fn others_are_not_told<N: Jobs>()
+pub fn others_are_not_told<N: JobRunner>()
     ensures { (begun : DeskState) (waiting others : List (JobId × AdmittedJob)) (r q : N)
         (first second : List ServerEvent) (s t : ServerState N)
-        → Happens (steps_of N.Jobs) (one_desk keeps_all begun waiting r) first s
-        → Happens (steps_of N.Jobs) (one_desk keeps_all begun others q) second t
+        → Happens (steps_of N.JobRunner) (one_desk keeps_all begun waiting r) first s
+        → Happens (steps_of N.JobRunner) (one_desk keeps_all begun others q) second t
         → EachTwo HappensAlike first second → EachTwo IsSentAlike first second }
 {}

@@ -8,7 +8,7 @@ mod jobs;
 mod laws;
 
 pub use access::Access;
-pub use change::{Change, Changes};
+pub use change::{ChangeSink, DeskChange};
 pub use job_id::JobId;
-pub use jobs::{Jobs, RefusedStart};
+pub use jobs::{JobRunner, RefusedStart};
 pub use laws::{each_tenant_is_alone, one_key_one_job, others_are_not_told};

@@ -32,21 +32,21 @@ returns-in-Result-clause-done g c = framed_as c.answer_result.result _ _
 
 pub returns-in-Account-clause-records : goal.returns-in-Account-clause-records
 returns-in-Account-clause-records g c =
-    records_unkeyed g.C.Changes c.args.place c.args.changes.now c.args.changes.now c.args.desk.now c.args.desk.now _ (keyed_none _ c.args.desk.now c.args.desk.now refl)
-    (records_nothing g.C.Changes c.args.place c.args.changes.now c.args.desk.now c.args.desk.now refl)
+    records_unkeyed g.C.ChangeSink c.args.place c.args.changes.now c.args.changes.now c.args.desk.now c.args.desk.now _ (keyed_none _ c.args.desk.now c.args.desk.now refl)
+    (records_nothing g.C.ChangeSink c.args.place c.args.changes.now c.args.desk.now c.args.desk.now refl)
 
 pub returns-in-Status-clause-records : goal.returns-in-Status-clause-records
 returns-in-Status-clause-records g c =
-    records_unkeyed g.C.Changes c.args.place c.args.changes.now c.args.changes.now c.args.desk.now c.args.desk.now _ (keyed_none _ c.args.desk.now c.args.desk.now refl)
-    (records_nothing g.C.Changes c.args.place c.args.changes.now c.args.desk.now c.args.desk.now refl)
+    records_unkeyed g.C.ChangeSink c.args.place c.args.changes.now c.args.changes.now c.args.desk.now c.args.desk.now _ (keyed_none _ c.args.desk.now c.args.desk.now refl)
+    (records_nothing g.C.ChangeSink c.args.place c.args.changes.now c.args.desk.now c.args.desk.now refl)
 
 pub returns-in-Result-clause-records : goal.returns-in-Result-clause-records
 returns-in-Result-clause-records g c =
     let same = c.answer_result.ensures.same in
-    records_unkeyed g.C.Changes c.args.place c.args.changes.now c.args.changes.now c.args.desk.now c.answer_result.new.desk _ (keyed_none _ c.args.desk.now c.answer_result.new.desk (ap (λ (l : Ledger). length l.jobs) same))
-    (records_nothing g.C.Changes c.args.place c.args.changes.now c.args.desk.now c.answer_result.new.desk same)
+    records_unkeyed g.C.ChangeSink c.args.place c.args.changes.now c.args.changes.now c.args.desk.now c.answer_result.new.desk _ (keyed_none _ c.args.desk.now c.answer_result.new.desk (ap (λ (l : Ledger). length l.jobs) same))
+    (records_nothing g.C.ChangeSink c.args.place c.args.changes.now c.args.desk.now c.answer_result.new.desk same)
 
 pub returns-in-Grant-clause-records : goal.returns-in-Grant-clause-records
 returns-in-Grant-clause-records g c =
     let r = c.answer_grant_recorded-reply in
-    records_unkeyed g.C.Changes c.args.place c.args.changes.now r.new.changes c.args.desk.now r.new.desk _ (keyed_none _ c.args.desk.now r.new.desk r.ensures.count) r.ensures.records
+    records_unkeyed g.C.ChangeSink c.args.place c.args.changes.now r.new.changes c.args.desk.now r.new.desk _ (keyed_none _ c.args.desk.now r.new.desk r.ensures.count) r.ensures.records

@@ -9,4 +9,4 @@ returns-then-ahead-gt0-clause-records g c =
 pub returns-else-ahead-gt0-clause-records : goal.returns-else-ahead-gt0-clause-records
 returns-else-ahead-gt0-clause-records g c =
     let none = c.if-ahead-gt0.false in
-    records_nothing g.C.Changes c.args.place c.args.changes.now c.args.desk.now c.keep_within-ahead.new.self (c.keep_within-ahead.ensures.forgets.same (omega (arith, none)))
+    records_nothing g.C.ChangeSink c.args.place c.args.changes.now c.args.desk.now c.keep_within-ahead.new.self (c.keep_within-ahead.ensures.forgets.same (omega (arith, none)))

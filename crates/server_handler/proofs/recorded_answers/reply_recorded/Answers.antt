@@ -12,5 +12,5 @@ returns-in-AsItCame-Err-clause-done g c = record {
 
 pub returns-in-AsItCame-Err-clause-records : goal.returns-in-AsItCame-Err-clause-records
 returns-in-AsItCame-Err-clause-records g c =
-    records_unkeyed g.C.Changes c.args.place c.args.changes.now c.args.changes.now c.args.desk.now c.args.desk.now _ (keyed_none _ c.args.desk.now c.args.desk.now refl)
-    (records_nothing g.C.Changes c.args.place c.args.changes.now c.args.desk.now c.args.desk.now refl)
+    records_unkeyed g.C.ChangeSink c.args.place c.args.changes.now c.args.changes.now c.args.desk.now c.args.desk.now _ (keyed_none _ c.args.desk.now c.args.desk.now refl)
+    (records_nothing g.C.ChangeSink c.args.place c.args.changes.now c.args.desk.now c.args.desk.now refl)

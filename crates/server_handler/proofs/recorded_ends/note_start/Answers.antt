@@ -13,7 +13,7 @@ returns-in-NotStarted g c old new number tells =
 pub returns-in-NotTaken : goal.returns-in-NotTaken
 returns-in-NotTaken g c old new number tells =
     let told = subst (λ (r : Option SubmitRefusal). TellsStart old number r new) (c.in-Some.is ∙ ap (λ (s : SubmitRefusal). Some s) c.in-NotTaken.is) tells in
-    records_nothing g.C.Changes c.args.place c.args.changes.now old new (taken_same old new number c.in-NotTaken._code told)
+    records_nothing g.C.ChangeSink c.args.place c.args.changes.now old new (taken_same old new number c.in-NotTaken._code told)
 
 pub returns-in-None : goal.returns-in-None
-returns-in-None g c old new number tells = records_nothing g.C.Changes c.args.place c.args.changes.now old new (started_same old new number (rw c.in-None.is at tells))
+returns-in-None g c old new number tells = records_nothing g.C.ChangeSink c.args.place c.args.changes.now old new (started_same old new number (rw c.in-None.is at tells))

@@ -34,8 +34,8 @@ returns-clause-records g c =
     let a = c.record_ahead-admission in
     let admission = a.ensures.admission s.buffer.value.items c.into_parts-tenant.ensures.admission c.into_parts-tenant.ensures.copy in
     let r = c.start_recorded in
-    records_keyed g.C.Changes c.args.place c.args.changes.now r.new.changes c.args.desk.now r.new.desk _ _ (keyed_behind _ c.args.desk.now t.new.desk r.new.desk r.ensures.count ∙ sym (append-nil _))
-    (records_both g.C.Changes c.args.place c.args.changes.now t.new.changes r.new.changes c.args.desk.now t.new.desk r.new.desk _ []
-    (records_both g.C.Changes c.args.place c.args.changes.now a.new.changes t.new.changes c.args.desk.now c.args.desk.now t.new.desk [] _
+    records_keyed g.C.ChangeSink c.args.place c.args.changes.now r.new.changes c.args.desk.now r.new.desk _ _ (keyed_behind _ c.args.desk.now t.new.desk r.new.desk r.ensures.count ∙ sym (append-nil _))
+    (records_both g.C.ChangeSink c.args.place c.args.changes.now t.new.changes r.new.changes c.args.desk.now t.new.desk r.new.desk _ []
+    (records_both g.C.ChangeSink c.args.place c.args.changes.now a.new.changes t.new.changes c.args.desk.now c.args.desk.now t.new.desk [] _
     (a.ensures.records c.args.desk.now) (t.ensures.records _ s.programs.items s.buffer.value.items admission))
     r.ensures.records)

@@ -33,5 +33,5 @@ returns-in-Err-clause-done g c = framed_as c.answer_taken.result.1 _ _
 pub returns-in-Err-clause-records : goal.returns-in-Err-clause-records
 returns-in-Err-clause-records g c =
     let same = c.answer_taken.ensures.done.was.0 in
-    records_unkeyed g.C.Changes c.args.place c.args.changes.now c.args.changes.now c.args.desk.now c.answer_taken.new.desk _ (keyed_none _ c.args.desk.now c.answer_taken.new.desk (ap (λ (l : Ledger). length l.jobs) same))
-    (records_nothing g.C.Changes c.args.place c.args.changes.now c.args.desk.now c.answer_taken.new.desk same)
+    records_unkeyed g.C.ChangeSink c.args.place c.args.changes.now c.args.changes.now c.args.desk.now c.answer_taken.new.desk _ (keyed_none _ c.args.desk.now c.answer_taken.new.desk (ap (λ (l : Ledger). length l.jobs) same))
+    (records_nothing g.C.ChangeSink c.args.place c.args.changes.now c.args.desk.now c.answer_taken.new.desk same)

@@ -4,13 +4,13 @@ use Rattle.server_handler.proofs.Recorded.{records_nothing, records_room}
 use Rattle.server_handler.proofs.recorded_submit.record_ahead.Goals as goal
 
 pub returns-in-Err-clause-records : goal.returns-in-Err-clause-records
-returns-in-Err-clause-records g c desk = records_nothing g.C.Changes c.args.place c.args.changes.now desk desk refl
+returns-in-Err-clause-records g c desk = records_nothing g.C.ChangeSink c.args.place c.args.changes.now desk desk refl
 
 pub returns-in-Err-copy-clause-records : goal.returns-in-Err-copy-clause-records
-returns-in-Err-copy-clause-records g c desk = records_nothing g.C.Changes c.args.place c.args.changes.now desk desk refl
+returns-in-Err-copy-clause-records g c desk = records_nothing g.C.ChangeSink c.args.place c.args.changes.now desk desk refl
 
 pub returns-in-Err-taken_change-clause-records : goal.returns-in-Err-taken_change-clause-records
-returns-in-Err-taken_change-clause-records g c desk = records_nothing g.C.Changes c.args.place c.args.changes.now desk desk refl
+returns-in-Err-taken_change-clause-records g c desk = records_nothing g.C.ChangeSink c.args.place c.args.changes.now desk desk refl
 
 pub returns-in-Ok-reserve-clause-admission : goal.returns-in-Ok-reserve-clause-admission
 returns-in-Ok-reserve-clause-admission g c buffer admission copied =
@@ -20,7 +20,7 @@ returns-in-Ok-reserve-clause-admission g c buffer admission copied =
     )
 
 pub returns-in-Ok-reserve-clause-records : goal.returns-in-Ok-reserve-clause-records
-returns-in-Ok-reserve-clause-records g c desk = records_room g.C.Changes c.args.place c.args.changes.now c.reserve.new.self desk c.reserve.ensures.sound c.reserve.ensures.same
+returns-in-Ok-reserve-clause-records g c desk = records_room g.C.ChangeSink c.args.place c.args.changes.now c.reserve.new.self desk c.reserve.ensures.sound c.reserve.ensures.same
 
 pub returns-in-Err-reserve-clause-records : goal.returns-in-Err-reserve-clause-records
-returns-in-Err-reserve-clause-records g c desk = records_room g.C.Changes c.args.place c.args.changes.now c.reserve.new.self desk c.reserve.ensures.sound c.reserve.ensures.same
+returns-in-Err-reserve-clause-records g c desk = records_room g.C.ChangeSink c.args.place c.args.changes.now c.reserve.new.self desk c.reserve.ensures.sound c.reserve.ensures.same

@@ -24,4 +24,4 @@ returns-in-Err-clause-done g c = rw c.in-Err.is c.answer_taken.ensures.done
 
 pub returns-in-Err-clause-records : goal.returns-in-Err-clause-records
 returns-in-Err-clause-records g c =
-    records_nothing g.C.Changes c.args.place c.args.changes.now c.args.desk.now c.answer_taken.new.desk c.answer_taken.ensures.done.was.0
+    records_nothing g.C.ChangeSink c.args.place c.args.changes.now c.args.desk.now c.answer_taken.new.desk c.answer_taken.ensures.done.was.0

@@ -9,7 +9,7 @@ use Rattle.server_handler.proofs.served_desk.answer_keyed.Goals as goal
 
 pub returns-in-Some-clause-replies : goal.returns-in-Some-clause-replies
 returns-in-Some-clause-replies g c =
-    let m = steps_of g.N.Jobs in
+    let m = steps_of g.N.JobRunner in
     let d = c.args.desk.now in
     let r = c.args.runner.now in
     let known : job_among d.keys c.args.key ≡ Some c.in-Some.job = ap (λ (x : DeskState). job_among x.keys c.args.key) (sym c.desk.view_is) ∙ sym c.job_of.ensures ∙ c.in-Some.is in
@@ -17,4 +17,4 @@ returns-in-Some-clause-replies g c =
     (known_replies m c.args.keep r.desk d r.jobs c.args.key (asked_of c.args.submit) c.in-Some.job known)
 
 pub returns-in-Some-clause-records : goal.returns-in-Some-clause-records
-returns-in-Some-clause-records g c = records_no_change g.C.Changes c.args.runner.now.desk c.args.changes.now c.args.desk.now
+returns-in-Some-clause-records g c = records_no_change g.C.ChangeSink c.args.runner.now.desk c.args.changes.now c.args.desk.now

@@ -15,12 +15,12 @@ answer_asked-requires-clause-asked g c = (request_asked c.in-AsItCame-Ok.request
 pub returns-in-AsItCame-Err-clause-replies : goal.returns-in-AsItCame-Err-clause-replies
 returns-in-AsItCame-Err-clause-replies g c =
     let asked : asked_of c.args.request ≡ Err c.in-AsItCame-Err.code = ap asked_of (c.in-AsItCame-Err.is ∙ ap AsItCame c.in-AsItCame-Err.field-0-is) in
-    subst (λ (a : Result Asked ℕ). IsReply c.refuse.result.1 (λ frame. RepliesFromLedger (steps_of g.N.Jobs) c.args.runner.now.desk c.args.keep c.args.ledger.now c.args.runner.now.jobs a frame c.args.ledger.now c.args.runner.now.jobs))
+    subst (λ (a : Result Asked ℕ). IsReply c.refuse.result.1 (λ frame. RepliesFromLedger (steps_of g.N.JobRunner) c.args.runner.now.desk c.args.keep c.args.ledger.now c.args.runner.now.jobs a frame c.args.ledger.now c.args.runner.now.jobs))
     (sym asked)
-    (is_reply c.refuse.result.1 (λ frame. RepliesFromLedger (steps_of g.N.Jobs) c.args.runner.now.desk c.args.keep c.args.ledger.now c.args.runner.now.jobs (Err c.in-AsItCame-Err.code) frame c.args.ledger.now c.args.runner.now.jobs)
+    (is_reply c.refuse.result.1 (λ frame. RepliesFromLedger (steps_of g.N.JobRunner) c.args.runner.now.desk c.args.keep c.args.ledger.now c.args.runner.now.jobs (Err c.in-AsItCame-Err.code) frame c.args.ledger.now c.args.runner.now.jobs)
     (refusal_frame c.in-AsItCame-Err.code) c.refuse.ensures (refl, refl, refl))
 
 pub returns-in-AsItCame-Err-clause-records : goal.returns-in-AsItCame-Err-clause-records
 returns-in-AsItCame-Err-clause-records g c =
-    records_unkeyed g.C.Changes c.args.runner.now.desk c.args.changes.now c.args.changes.now c.args.ledger.now c.args.ledger.now _ (keyed_none _ c.args.ledger.now c.args.ledger.now refl)
-    (records_nothing g.C.Changes c.args.runner.now.desk c.args.changes.now c.args.ledger.now c.args.ledger.now refl)
+    records_unkeyed g.C.ChangeSink c.args.runner.now.desk c.args.changes.now c.args.changes.now c.args.ledger.now c.args.ledger.now _ (keyed_none _ c.args.ledger.now c.args.ledger.now refl)
+    (records_nothing g.C.ChangeSink c.args.runner.now.desk c.args.changes.now c.args.ledger.now c.args.ledger.now refl)

@@ -17,7 +17,7 @@ returns-then-before-after-clause-replies g c =
     let more : length d.ledger.jobs < length a.new.ledger.jobs = omega (arith, before, after, longer) in
     let keys : c.note.new.self ≡ keys_behind d c.args.key a.new.ledger =
     c.note.ensures ∙ ap (λ (n : ℕ). noted c.desk.inside.keys n c.args.key) after ∙ sym (keys_if d c.args.key a.new.ledger more) in
-    new_key_answered (steps_of g.N.Jobs) c.args.keep c.args.runner.now.desk d c.args.desk.now c.args.runner.now.jobs c.args.key (asked_of c.args.submit) a.result.1 a.new.ledger c.note.new.self a.new.runner.jobs
+    new_key_answered (steps_of g.N.JobRunner) c.args.keep c.args.runner.now.desk d c.args.desk.now c.args.runner.now.jobs c.args.key (asked_of c.args.submit) a.result.1 a.new.ledger c.note.new.self a.new.runner.jobs
     c.desk.view_is keys c.requires.unknown a.ensures.replies
 
 pub returns-then-before-after-clause-records : goal.returns-then-before-after-clause-records
@@ -30,7 +30,7 @@ returns-then-before-after-clause-records g c =
     let more : length d.ledger.jobs < length a.new.ledger.jobs = omega (arith, before, after, longer) in
     let keys : c.note.new.self ≡ keys_behind d c.args.key a.new.ledger =
     c.note.ensures ∙ ap (λ (n : ℕ). noted c.desk.inside.keys n c.args.key) after ∙ sym (keys_if d c.args.key a.new.ledger more) in
-    records_new_key g.C.Changes c.args.runner.now.desk c.args.changes.now a.new.changes d c.args.desk.now a.new.ledger c.args.key c.note.new.self c.desk.view_is keys a.ensures.records
+    records_new_key g.C.ChangeSink c.args.runner.now.desk c.args.changes.now a.new.changes d c.args.desk.now a.new.ledger c.args.key c.note.new.self c.desk.view_is keys a.ensures.records
 
 pub returns-else-before-after-clause-replies : goal.returns-else-before-after-clause-replies
 returns-else-before-after-clause-replies g c =
@@ -40,7 +40,7 @@ returns-else-before-after-clause-replies g c =
     let after = c.job_count-after.ensures in
     let shorter = c.if-before-after.false in
     let keys = sym (keys_else d c.args.key a.new.ledger (λ more. absurd (omega (arith, before, after, shorter, more)))) in
-    new_key_answered (steps_of g.N.Jobs) c.args.keep c.args.runner.now.desk d c.args.desk.now c.args.runner.now.jobs c.args.key (asked_of c.args.submit) a.result.1 a.new.ledger c.desk.inside.keys a.new.runner.jobs
+    new_key_answered (steps_of g.N.JobRunner) c.args.keep c.args.runner.now.desk d c.args.desk.now c.args.runner.now.jobs c.args.key (asked_of c.args.submit) a.result.1 a.new.ledger c.desk.inside.keys a.new.runner.jobs
     c.desk.view_is keys c.requires.unknown a.ensures.replies
 
 pub returns-else-before-after-clause-records : goal.returns-else-before-after-clause-records
@@ -51,4 +51,4 @@ returns-else-before-after-clause-records g c =
     let after = c.job_count-after.ensures in
     let shorter = c.if-before-after.false in
     let keys = sym (keys_else d c.args.key a.new.ledger (λ more. absurd (omega (arith, before, after, shorter, more)))) in
-    records_new_key g.C.Changes c.args.runner.now.desk c.args.changes.now a.new.changes d c.args.desk.now a.new.ledger c.args.key c.desk.inside.keys c.desk.view_is keys a.ensures.records
+    records_new_key g.C.ChangeSink c.args.runner.now.desk c.args.changes.now a.new.changes d c.args.desk.now a.new.ledger c.args.key c.desk.inside.keys c.desk.view_is keys a.ensures.records

@@ -11,7 +11,7 @@ use Rattle.server_handler.proofs.served_desk.answer_plain.Goals as goal
 pub returns-clause-replies : goal.returns-clause-replies
 returns-clause-replies g c =
     let a = c.answer_ledger in
-    let m = steps_of g.N.Jobs in
+    let m = steps_of g.N.JobRunner in
     let r = c.args.runner.now in
     let d : DeskState = desk_with c.desk.inside.ledger c.desk.inside.keys in
     subst (λ (x : DeskState). IsReply a.result.1 (λ frame. DeskReplies m r.desk c.args.keep x r.jobs (plain (asked_of c.args.request)) frame (desk_with a.new.ledger c.desk.inside.keys) a.new.runner.jobs)) c.desk.view_is
@@ -21,5 +21,5 @@ pub returns-clause-records : goal.returns-clause-records
 returns-clause-records g c =
     let a = c.answer_ledger in
     let d : DeskState = desk_with c.desk.inside.ledger c.desk.inside.keys in
-    subst (λ (x : DeskState). RecordsAt g.C.Changes c.args.runner.now.desk c.args.changes.now a.new.changes x (desk_with a.new.ledger c.desk.inside.keys)) c.desk.view_is
-    (records_plainly g.C.Changes c.args.runner.now.desk c.args.changes.now a.new.changes d a.new.ledger a.ensures.records)
+    subst (λ (x : DeskState). RecordsAt g.C.ChangeSink c.args.runner.now.desk c.args.changes.now a.new.changes x (desk_with a.new.ledger c.desk.inside.keys)) c.desk.view_is
+    (records_plainly g.C.ChangeSink c.args.runner.now.desk c.args.changes.now a.new.changes d a.new.ledger a.ensures.records)

@@ -10,15 +10,15 @@ use Rattle.server_handler.proofs.server.answer_among.Goals as goal
 
 pub returns-in-Err-clause-replies : goal.returns-in-Err-clause-replies
 returns-in-Err-clause-replies g c s named kept =
-    answered_nowhere (steps_of g.N.Jobs) s c.args.desks.now.items c.args.runner.now.jobs c.args.access (query_asked c.args.query) c.in-Err.code c.refuse.result.1
+    answered_nowhere (steps_of g.N.JobRunner) s c.args.desks.now.items c.args.runner.now.jobs c.args.access (query_asked c.args.query) c.in-Err.code c.refuse.result.1
     (ap (λ (names : List (List ℕ)). goes names c.args.access (query_asked c.args.query)) named ∙ c.in-Err.ensures.desk) c.refuse.ensures
 
 pub returns-in-Err-clause-records : goal.returns-in-Err-clause-records
-returns-in-Err-clause-records g c = all_nothing g.C.Changes c.args.changes.now c.args.desks.now.items c.args.desks.now.items refl
+returns-in-Err-clause-records g c = all_nothing g.C.ChangeSink c.args.changes.now c.args.desks.now.items c.args.desks.now.items refl
 
 pub returns-clause-replies : goal.returns-clause-replies
 returns-clause-replies g c s named kept =
-    let m = steps_of g.N.Jobs in
+    let m = steps_of g.N.JobRunner in
     let desks = c.args.desks.now.items in
     let r = c.args.runner.now.jobs in
     let a = c.answer_query in
@@ -35,5 +35,5 @@ pub returns-clause-records : goal.returns-clause-records
 returns-clause-records g c =
     let desks = c.args.desks.now.items in
     let within : c.in-Ok.place < length desks = search (rules, arith) in
-    all_at g.C.Changes c.args.changes.now c.answer_query.new.changes c.in-Ok.place desks c.index_mut.result.now c.answer_query.new.desk
+    all_at g.C.ChangeSink c.args.changes.now c.answer_query.new.changes c.in-Ok.place desks c.index_mut.result.now c.answer_query.new.desk
     (slice_get_read desks (length desks) c.in-Ok.place c.index_mut.result.now refl within c.index_mut.ensures.value) c.answer_query.ensures.records

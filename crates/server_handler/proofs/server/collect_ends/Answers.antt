@@ -8,7 +8,7 @@ pub jobs-init : goal.jobs-init
 jobs-init g c = record {
   ready = c.requires;
   ended = λ s. ([], none_yet);
-  records = all_nothing g.C.Changes c.args.changes.now c.args.desks.now.items c.args.desks.now.items refl;
+  records = all_nothing g.C.ChangeSink c.args.changes.now c.args.desks.now.items c.args.desks.now.items refl;
   count = refl;
 }
 
@@ -18,9 +18,9 @@ jobs-preserved g c = record {
   ended = λ s. let e = c.jobs.invariant.ended s in (
     e.0 ++ (c.in-Some.id, c.in-Some.outcome) ∷ [],
     one_more e.0 (record s { desks = c.jobs.desks.items; jobs = c.jobs.jobs }) c.in-Some.id c.in-Some.outcome (record s { desks = c.note_end.new.desks.items; jobs = c.take.new.self }) e.1
-        (ends_among (steps_of g.N.Jobs) s c.jobs.desks.items c.jobs.jobs c.in-Some.id c.in-Some.outcome c.note_end.new.desks.items c.take.new.self c.in-Some.ensures.takes c.note_end.ensures.noted),
+        (ends_among (steps_of g.N.JobRunner) s c.jobs.desks.items c.jobs.jobs c.in-Some.id c.in-Some.outcome c.note_end.new.desks.items c.take.new.self c.in-Some.ensures.takes c.note_end.ensures.noted),
   );
-  records = all_both g.C.Changes c.args.changes.now c.jobs.changes c.note_end.new.changes c.args.desks.now.items c.jobs.desks.items c.note_end.new.desks.items c.jobs.invariant.records c.note_end.ensures.records;
+  records = all_both g.C.ChangeSink c.args.changes.now c.jobs.changes c.note_end.new.changes c.args.desks.now.items c.jobs.desks.items c.note_end.new.desks.items c.jobs.invariant.records c.note_end.ensures.records;
   count = c.note_end.ensures.count ∙ c.jobs.invariant.count;
 }
 

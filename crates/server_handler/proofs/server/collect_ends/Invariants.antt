@@ -8,12 +8,12 @@ use Rattle.server_handler.proofs.server.collect_ends.Given as goal
 
 abbrev pub invariant-jobs : goal.invariant-jobs
 invariant-jobs g l = record {
-  ready : g.N.Jobs.ready l.jobs;
+  ready : g.N.JobRunner.ready l.jobs;
   ended : (s : ServerState g.row.N.Denot) → (ends : List (JobId × Result Report ℕ))
-      × EndsEach (steps_of g.N.Jobs) (record s { desks = l.fn.desks.items; jobs = l.fn.jobs }) ends (record s { desks = l.desks.items; jobs = l.jobs });
-  records : RecordsAll g.C.Changes l.fn.changes l.changes l.fn.desks.items l.desks.items;
+      × EndsEach (steps_of g.N.JobRunner) (record s { desks = l.fn.desks.items; jobs = l.fn.jobs }) ends (record s { desks = l.desks.items; jobs = l.jobs });
+  records : RecordsAll g.C.ChangeSink l.fn.changes l.changes l.fn.desks.items l.desks.items;
   count : length l.desks.items ≡ length l.fn.desks.items;
 }
 
 abbrev pub decreases-jobs : goal.decreases-jobs
-decreases-jobs g l = g.N.Jobs.held l.jobs
+decreases-jobs g l = g.N.JobRunner.held l.jobs

@@ -3,4 +3,4 @@ use Rattle.server_state.proofs.AlikeHistories.{sent_alike}
 use Rattle.server_state.proofs.laws.others_are_not_told.Goals as goal
 
 pub returns : goal.returns
-returns g c = λ begun waiting others r q first second s t h k same. sent_alike (steps_of g.N.Jobs) begun waiting others r q first second s t h k same
+returns g c = λ begun waiting others r q first second s t h k same. sent_alike (steps_of g.N.JobRunner) begun waiting others r q first second s t h k same

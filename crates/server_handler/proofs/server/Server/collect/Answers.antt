@@ -12,5 +12,5 @@ returns-clause-collected g c =
     let own = c.self.inside in
     let s : ServerState g.row.N.Denot =
     record { names = map string_bytes own.names.items; keep = own.keep; desks = own.desks.items; waiting = map waiting_job own.waiting.items; jobs = own.runner.jobs } in
-    subst (λ (x : ServerState g.row.N.Denot). (ends : List (JobId × Result Report ℕ)) × Collects (steps_of g.N.Jobs) x ends (record s { desks = e.new.desks.items; jobs = e.new.jobs })) c.self.view_is
+    subst (λ (x : ServerState g.row.N.Denot). (ends : List (JobId × Result Report ℕ)) × Collects (steps_of g.N.JobRunner) x ends (record s { desks = e.new.desks.items; jobs = e.new.jobs })) c.self.view_is
     (e.ensures.collected s)

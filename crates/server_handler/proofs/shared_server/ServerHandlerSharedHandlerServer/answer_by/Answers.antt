@@ -10,8 +10,8 @@ pub returns-clause-ok : goal.returns-clause-ok
 returns-clause-ok g c =
     let a = c.answer-refusal in
     let query : shared.Query = record { passage = c.args.passage; asked = asked_of c.args.request; beyond = c.args.beyond } in
-    reply_ok a.result.1 (λ frame. AnswersShared (steps_of g.N.Jobs) g.C.Changes (c.args.server.now, c.args.self.now) query frame (a.new.self, a.new.changes))
-    (reply_shared (steps_of g.N.Jobs) g.C.Changes c.args.server.now c.collect.new.self a.new.self c.args.self.now c.collect.new.changes a.new.changes query c.access_of-access.result
+    reply_ok a.result.1 (λ frame. AnswersShared (steps_of g.N.JobRunner) g.C.ChangeSink (c.args.server.now, c.args.self.now) query frame (a.new.self, a.new.changes))
+    (reply_shared (steps_of g.N.JobRunner) g.C.ChangeSink c.args.server.now c.collect.new.self a.new.self c.args.self.now c.collect.new.changes a.new.changes query c.access_of-access.result
     (query_asked c.query_with-query.result) (asked_of c.own_named-named.result) a.result.1 c.self.inside.changes c.access_of-access.ensures c.self.view_is c.own_named-named.ensures c.query_with-query.ensures
     c.collect.ensures.collected a.ensures.replies c.collect.ensures.records a.ensures.records)
 
@@ -19,7 +19,7 @@ pub returns-clause-err : goal.returns-clause-err
 returns-clause-err g c =
     let a = c.answer-refusal in
     let query : shared.Query = record { passage = c.args.passage; asked = asked_of c.args.request; beyond = c.args.beyond } in
-    reply_err a.result.1 (λ frame. AnswersShared (steps_of g.N.Jobs) g.C.Changes (c.args.server.now, c.args.self.now) query frame (a.new.self, a.new.changes))
-    (reply_shared (steps_of g.N.Jobs) g.C.Changes c.args.server.now c.collect.new.self a.new.self c.args.self.now c.collect.new.changes a.new.changes query c.access_of-access.result
+    reply_err a.result.1 (λ frame. AnswersShared (steps_of g.N.JobRunner) g.C.ChangeSink (c.args.server.now, c.args.self.now) query frame (a.new.self, a.new.changes))
+    (reply_shared (steps_of g.N.JobRunner) g.C.ChangeSink c.args.server.now c.collect.new.self a.new.self c.args.self.now c.collect.new.changes a.new.changes query c.access_of-access.result
     (query_asked c.query_with-query.result) (asked_of c.own_named-named.result) a.result.1 c.self.inside.changes c.access_of-access.ensures c.self.view_is c.own_named-named.ensures c.query_with-query.ensures
     c.collect.ensures.collected a.ensures.replies c.collect.ensures.records a.ensures.records)

@@ -7,7 +7,7 @@ use Rattle.job_pool.specs.declared.pool_step.PoolStep.{PoolStep}
 use Rattle.job_pool.specs.declared.pool_step.PoolStep.TheVariants.{Put, Started}
 use Rattle.job_pool.proofs.Limits.{held_dropped, same_itself, ticketed_more, ticketed_still, within_held, within_same}
 use Rattle.job_pool.proofs.PoolParts.{still_step, ticket_noted}
-use Rattle.job_pool.proofs.server_pool.JobPoolJobs.start.Goals as goal
+use Rattle.job_pool.proofs.server_pool.JobPoolJobRunner.start.Goals as goal
 
 part_is : (a b : SeatPart PoolStep) → a ≡ b → a.part ≡ b.part
 part_is a b same = ap (λ (s : SeatPart PoolStep). s.part) same

@@ -8,7 +8,7 @@ use Rattle.job_pool.specs.declared.pool_step.PoolStep.{PoolStep}
 use Rattle.job_pool.specs.declared.pool_step.PoolStep.TheVariants.{Collected}
 use Rattle.job_pool.proofs.Limits.{ticket_found, ticketed_still, within_dropped}
 use Rattle.job_pool.proofs.PoolParts.{one_step, one_ticket, ticket_stays}
-use Rattle.job_pool.proofs.server_pool.JobPoolJobs.take.Goals as goal
+use Rattle.job_pool.proofs.server_pool.JobPoolJobRunner.take.Goals as goal
 
 pub invariant_of-self-2 : goal.invariant_of-self-2
 invariant_of-self-2 g c =
