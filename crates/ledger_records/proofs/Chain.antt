@@ -22,8 +22,8 @@ use Rattle.desk_records.specs.declared.stored_tenant.StoredTenant.{StoredTenant}
 use Rattle.desk_records.proofs.MadeLemmas.{all_made_stored, all_narrow_made, narrow_made, one_set}
 use Rattle.server_state.specs.Changing.{LeadAll, Makes, desk_of, last_keyed, no_change, noted_each, one_change}
 use Rattle.server_state.specs.States.{DeskState}
-use Rattle.server_state.specs.declared.change.Change.{Change}
-use Rattle.server_state.specs.declared.change.Change.TheVariants.{Granted, Taken, Settled, Forgotten}
+use Rattle.server_state.specs.declared.change.DeskChange.{DeskChange}
+use Rattle.server_state.specs.declared.change.DeskChange.TheVariants.{Granted, Taken, Settled, Forgotten}
 use Rattle.ledger_records.specs.ChangedRows.{AreRowsOf, AreRowsOfAll, IsRowOfKey, more_rows, no_rows}
 use Rattle.ledger_records.specs.DeskRecords.{AreDesksOf, AreStatesAlike, IsDeskOf, keyed_jobs_of}
 use Rattle.ledger_records.specs.LedgerRecords.{HasFewerKeyed}
@@ -61,7 +61,7 @@ module _ (desk : ℕ) (l : Ledgers) (old : DeskState) (is : IsDeskOf desk l old)
       )
 
 -- the desk of the change
-own_kept : (l : Ledgers) (c : Change) (old new : DeskState) (rows : StoredChange) → IsDeskOf (desk_of c) l old → AreNarrow l → IsKeyedBy key_id l.keys → Makes c old new → AreRowsOf l c rows → IsNarrowChange rows → IsDeskOf (desk_of c) (made l rows) new
+own_kept : (l : Ledgers) (c : DeskChange) (old new : DeskState) (rows : StoredChange) → IsDeskOf (desk_of c) l old → AreNarrow l → IsKeyedBy key_id l.keys → Makes c old new → AreRowsOf l c rows → IsNarrowChange rows → IsDeskOf (desk_of c) (made l rows) new
 own_kept l (Granted d tenant amount) old new rows is narrow rise makes are small =
     subst (λ (r : StoredChange). IsDeskOf d (made l r) new) (sym are.1) (record {
       ledger = granted_kept d l old.ledger new.ledger (string_bytes tenant) amount are.0 is.ledger makes.0 makes.2 are.2;
@@ -106,7 +106,7 @@ turned : (d desk : ℕ) (x : ℕ) → x ≡ d → d ≢ desk → x ≢ desk
 turned d desk x is other = λ same. other (sym is ∙ same)
 
 -- another desk
-other_kept : (l : Ledgers) (c : Change) (desk : ℕ) (state : DeskState) (rows : StoredChange) → desk_of c ≢ desk → IsDeskOf desk l state → AreNarrow l → AreRowsOf l c rows → IsNarrowChange rows → IsDeskOf desk (made l rows) state
+other_kept : (l : Ledgers) (c : DeskChange) (desk : ℕ) (state : DeskState) (rows : StoredChange) → desk_of c ≢ desk → IsDeskOf desk l state → AreNarrow l → AreRowsOf l c rows → IsNarrowChange rows → IsDeskOf desk (made l rows) state
 other_kept l (Granted d tenant amount) desk state rows other is narrow are small =
     subst (λ (r : StoredChange). IsDeskOf desk (made l r) state) (sym are.1) (record { ledger = granted_elsewhere desk l state.ledger is.ledger are.0 (turned d desk are.0.desk are.2.at other) are.2.numbered; keys = is.keys; few = is.few })
 other_kept l (Taken d tenant key programs credit buffer) desk state rows other is narrow are small =
@@ -138,14 +138,14 @@ other_kept l (Forgotten d ahead) desk state rows other is narrow are small =
     })
 
 -- the keys rise on
-rise_kept : (l : Ledgers) (c : Change) (rows : StoredChange) → AreRowsOf l c rows → IsKeyedBy key_id l.keys → IsKeyedBy key_id (made l rows).keys
+rise_kept : (l : Ledgers) (c : DeskChange) (rows : StoredChange) → AreRowsOf l c rows → IsKeyedBy key_id l.keys → IsKeyedBy key_id (made l rows).keys
 rise_kept l (Granted d tenant amount) rows are rise = subst (λ (r : StoredChange). IsKeyedBy key_id (made l r).keys) (sym are.1) rise
 rise_kept l (Taken d tenant key programs credit buffer) rows are rise = subst (λ (r : StoredChange). IsKeyedBy key_id (made l r).keys) (sym are.1) (noted_rise l.keys are.0.key rise)
 rise_kept l (Settled id outcome) rows are rise = subst (λ (r : StoredChange). IsKeyedBy key_id (made l r).keys) (sym are.1) rise
 rise_kept l (Forgotten d ahead) rows are rise = subst (λ (r : StoredChange). IsKeyedBy key_id (made l r).keys) (sym are.1) rise
 
 -- one change of all desks
-change_kept : (desks : List DeskState) (l : Ledgers) (c : Change) (rows : StoredChange) (old new : DeskState) → AreDesksOf l desks → slice_get desks (desk_of c) ≡ Some old → Makes c old new → AreRowsOf l c rows → IsNarrowChange rows → AreDesksOf (made l rows) (slice_set desks (desk_of c) new)
+change_kept : (desks : List DeskState) (l : Ledgers) (c : DeskChange) (rows : StoredChange) (old new : DeskState) → AreDesksOf l desks → slice_get desks (desk_of c) ≡ Some old → Makes c old new → AreRowsOf l c rows → IsNarrowChange rows → AreDesksOf (made l rows) (slice_set desks (desk_of c) new)
 change_kept desks l c rows old new are was makes is narrow = record {
   each = λ place state at. go place state at (cases_eq place (desk_of c));
   narrow = narrow_made l rows are.narrow narrow;
@@ -178,7 +178,7 @@ no_end [] x same = absurd (cc)
 no_end (y ∷ xs) x same = absurd (cc)
 
 -- the last of changes that lead from desks to others
-record LastLead (old : List DeskState) (changes : List Change) (c : Change) (after : List DeskState) : Type 0 where
+record LastLead (old : List DeskState) (changes : List DeskChange) (c : DeskChange) (after : List DeskState) : Type 0 where
   desks : List DeskState
   led : LeadAll old changes desks
   mid : DeskState
@@ -187,36 +187,36 @@ record LastLead (old : List DeskState) (changes : List Change) (c : Change) (aft
   makes : Makes c mid new
   is : after ≡ slice_set desks (desk_of c) new
 
-last_lead : (old : List DeskState) (all : List Change) (after : List DeskState) (changes : List Change) (c : Change) → LeadAll old all after → all ≡ changes ++ c ∷ [] → LastLead old changes c after
+last_lead : (old : List DeskState) (all : List DeskChange) (after : List DeskState) (changes : List DeskChange) (c : DeskChange) → LeadAll old all after → all ≡ changes ++ c ∷ [] → LastLead old changes c after
 last_lead old _ _ changes c no_change same = absurd (no_end changes c same)
 last_lead old _ _ changes c (one_change before desks d mid new led was makes) same =
     let both = same_ends before changes d c same in record {
       desks = desks;
-      led = subst (λ (cs : List Change). LeadAll old cs desks) both.0 led;
+      led = subst (λ (cs : List DeskChange). LeadAll old cs desks) both.0 led;
       mid = mid;
-      was = ap (λ (x : Change). slice_get desks (desk_of x)) (sym both.1) ∙ was;
+      was = ap (λ (x : DeskChange). slice_get desks (desk_of x)) (sym both.1) ∙ was;
       new = new;
-      makes = subst (λ (x : Change). Makes x mid new) both.1 makes;
-      is = ap (λ (x : Change). slice_set desks (desk_of x) new) both.1;
+      makes = subst (λ (x : DeskChange). Makes x mid new) both.1 makes;
+      is = ap (λ (x : DeskChange). slice_set desks (desk_of x) new) both.1;
     }
 
-none_lead : (old : List DeskState) (all : List Change) (after : List DeskState) → LeadAll old all after → all ≡ [] → after ≡ old
+none_lead : (old : List DeskState) (all : List DeskChange) (after : List DeskState) → LeadAll old all after → all ≡ [] → after ≡ old
 none_lead old _ _ no_change none = refl
 none_lead old _ _ (one_change before desks d mid new led was makes) none = absurd (no_end before d (sym none))
 
-pub all_recorded : (desks : List DeskState) (l : Ledgers) (changes : List Change) (all : List StoredChange) (after : List DeskState) → AreDesksOf l desks → LeadAll desks changes after → AreRowsOfAll l changes all → AreDesksOf (all_made l all) after
+pub all_recorded : (desks : List DeskState) (l : Ledgers) (changes : List DeskChange) (all : List StoredChange) (after : List DeskState) → AreDesksOf l desks → LeadAll desks changes after → AreRowsOfAll l changes all → AreDesksOf (all_made l all) after
 all_recorded desks l _ _ after are lead no_rows = subst (λ (d : List DeskState). AreDesksOf l d) (sym (none_lead desks [] after lead refl)) are
 all_recorded desks l _ _ after are lead (more_rows changes all c rows before is narrow) =
     let last = last_lead desks (changes ++ c ∷ []) after changes c lead refl in
     let mid = all_recorded desks l changes all last.desks are last.led before in
     subst (λ (m : Ledgers). AreDesksOf m after) (sym (fold-append made l all (rows ∷ []))) (subst (λ (d : List DeskState). AreDesksOf (made (all_made l all) rows) d) (sym last.is) (change_kept last.desks (all_made l all) c rows last.mid last.new mid last.was last.makes is narrow))
 
-pub all_narrow_rows : (l : Ledgers) (changes : List Change) (all : List StoredChange) → AreRowsOfAll l changes all → All IsNarrowChange all
+pub all_narrow_rows : (l : Ledgers) (changes : List DeskChange) (all : List StoredChange) → AreRowsOfAll l changes all → All IsNarrowChange all
 all_narrow_rows l _ _ no_rows = λ k d lt. absurd (omega (arith, lt))
 all_narrow_rows l _ _ (more_rows changes all c rows before is narrow) = All-push IsNarrowChange all rows (all_narrow_rows l changes all before) narrow
 
 -- what a restart loads is what the changes made
-pub restored_alike : (desks : List DeskState) (l : Ledgers) (changes : List Change) (all : List StoredChange) (after : List DeskState) (db : Trees) (loaded : Ledgers) (place : ℕ) (state restored : DeskState) → AreDesksOf l desks → LeadAll desks changes after → AreRowsOfAll l changes all → IsStored db l
+pub restored_alike : (desks : List DeskState) (l : Ledgers) (changes : List DeskChange) (all : List StoredChange) (after : List DeskState) (db : Trees) (loaded : Ledgers) (place : ℕ) (state restored : DeskState) → AreDesksOf l desks → LeadAll desks changes after → AreRowsOfAll l changes all → IsStored db l
     → IsStored (all_changed db all) loaded → AreNarrow loaded → slice_get after place ≡ Some state → IsDeskOf place loaded restored → AreStatesAlike state restored
 restored_alike desks l changes all after db loaded place state restored are lead rows stored_l stored_all narrow at is =
     let made_of = all_recorded desks l changes all after are lead rows in

@@ -20,8 +20,8 @@ use Rattle.desk_records.specs.declared.stored_change.TakenJob.{TakenJob}
 use Rattle.desk_records.specs.declared.stored_job.StoredJob.{StoredJob}
 use Rattle.desk_records.specs.declared.stored_outcome.StoredOutcome.{StoredOutcome}
 use Rattle.desk_records.specs.declared.stored_tenant.StoredTenant.{StoredTenant}
-use Rattle.server_state.specs.declared.change.Change.{Change}
-use Rattle.server_state.specs.declared.change.Change.TheVariants.{Granted, Taken, Settled, Forgotten}
+use Rattle.server_state.specs.declared.change.DeskChange.{DeskChange}
+use Rattle.server_state.specs.declared.change.DeskChange.TheVariants.{Granted, Taken, Settled, Forgotten}
 use Rattle.ledger_records.specs.DeskRecords.{keyed_jobs_of}
 use Rattle.ledger_records.specs.LedgerRecords.{CameTo, HasItsNumber, HasTaken, job_record, outcome_record, tenant_named}
 
@@ -97,7 +97,7 @@ pub record AreRowsOfForgotten (desk : ℕ) (l : Ledgers) (ahead : ℕ) (f : Forg
       → IsOverAhead desk l ahead number
 
 -- the rows that a change of a desk changes in these records
-abbrev pub AreRowsOf : Ledgers → Change → StoredChange → Type 0
+abbrev pub AreRowsOf : Ledgers → DeskChange → StoredChange → Type 0
 AreRowsOf l (Granted desk tenant amount) rows =
     (t : StoredTenant) × (rows ≡ stored.Granted t)
     × IsRowOfGrant desk l (string_bytes tenant) amount t
@@ -111,8 +111,8 @@ AreRowsOf l (Forgotten desk ahead) rows =
     (f : ForgottenJobs) × (rows ≡ stored.Forgotten f) × AreRowsOfForgotten desk l ahead f
 
 -- the rows of changes, each in the records that those before made
-pub data AreRowsOfAll (l : Ledgers) : List Change → List StoredChange → Type 0 where
+pub data AreRowsOfAll (l : Ledgers) : List DeskChange → List StoredChange → Type 0 where
   no_rows : AreRowsOfAll l [] []
-  more_rows : (changes : List Change) (all : List StoredChange) (c : Change) (rows : StoredChange)
+  more_rows : (changes : List DeskChange) (all : List StoredChange) (c : DeskChange) (rows : StoredChange)
       → AreRowsOfAll l changes all → AreRowsOf (all_made l all) c rows → IsNarrowChange rows
       → AreRowsOfAll l (changes ++ c ∷ []) (all ++ rows ∷ [])
