@@ -1,15 +1,23 @@
 -- A tenant's row has its number alone.
-use Rattle.std.proofs.Common.{◌++◌, ◌⊎◌, pos, int_cmp, Less, Equal, inl, inr, slice_set, ◌≡◌, ◌+◌, ◌<◌, ◌==◌, ◌&&◌, ℕ, zero, suc, All, Bool, true, false, cond, List, [], ◌∷◌, find, length, get_or, slice_get, option_map, unwrap_or, Option, Some, None, refl, sym, ap, subst, ◌∙◌, arith}
+use Rattle.std.proofs.Common.{◌++◌, ◌⊎◌, pos, int_cmp, Less, Equal, inl, inr, slice_set, ◌≡◌, ◌+◌, ◌<◌, ◌==◌, ◌&&◌, ℕ, zero, suc, All, Bool, true, false, cond, List, [], ◌∷◌, find, length, get_or, slice_get, option_map, unwrap_or, Option, Some, None, Result, refl, sym, ap, subst, ◌∙◌, arith}
 use Rattle.std.proofs.lemmas.Bool.Decides.{nat_tests}
 use Rattle.std.proofs.lemmas.Bool.{cases_eq}
 use Rattle.std.proofs.lemmas.Option.{slice_get_within, get_or_from_slice_get}
 use Rattle.std.proofs.lemmas.Slice.Eq.{bytes_eq-Decides}
 use Rattle.std.specs.Str.{bytes_eq}
 use Rattle.desk_records.specs.Stored.{Ledgers}
+use Rattle.accounts.specs.Jobs.{settled, spent_by_job}
+use Rattle.accounts.specs.declared.jobs.JobStanding.{JobStanding}
+use Rattle.accounts.specs.declared.jobs.JobStanding.TheVariants as stands
+use Rattle.credit_book.specs.declared.book.Report.{Report}
+use Rattle.desk_records.specs.declared.stored_change.SettledJob.{SettledJob}
+use Rattle.desk_records.specs.declared.stored_job.StoredJob.{StoredJob}
+use Rattle.desk_records.specs.declared.stored_outcome.StoredResult.{StoredResult}
+use Rattle.desk_records.specs.declared.stored_outcome.StoredResult.TheVariants as stored
 use Rattle.desk_records.specs.declared.stored_tenant.StoredTenant.{StoredTenant}
-use Rattle.ledger_records.specs.ChangedRows.{IsRowOfGrant}
-use Rattle.ledger_records.specs.LedgerRecords.{HasItsNumber, is_tenant, tenant_named}
-use Rattle.ledger_records.specs.TenantRows.{AreTenantRows}
+use Rattle.ledger_records.specs.ChangedRows.{AreRowsOfEnd, IsRowOfGrant}
+use Rattle.ledger_records.specs.LedgerRecords.{CameTo, HasItsNumber, is_tenant, job_record, tenant_named}
+use Rattle.ledger_records.specs.TenantRows.{AreTenantRows, IsRowOfCost, spent_of_result}
 use Rattle.sqlite_keyed.specs.Keyed.{insert_by}
 use Rattle.sqlite_keyed.proofs.KeyedLemmas.{Less-from_lt}
 use Rattle.std.proofs.lemmas.Int.{ints}
@@ -188,3 +196,36 @@ module _ (rows : List StoredTenant) (t : StoredTenant) (are : AreTenantRows rows
       both i j a b (inl one) (inr two) desk name = one.0 ∙ sym (same_place j b two (sym desk ∙ ap (λ (r : StoredTenant). r.desk) one.1) (sym name ∙ ap (λ (r : StoredTenant). r.name) one.1))
       both i j a b (inr one) (inl two) desk name = same_place i a one (desk ∙ ap (λ (r : StoredTenant). r.desk) two.1) (name ∙ ap (λ (r : StoredTenant). r.name) two.1) ∙ sym two.0
       both i j a b (inr one) (inr two) desk name = are.apart i j a b one two desk name
+
+-- ---- a job that is over
+
+pub cost_row : (rows : List StoredTenant) (desk cost : ℕ) (name : List ℕ) (r t : StoredTenant) → AreTenantRows rows → find (is_tenant desk name) rows ≡ Some r → t ≡ record r { spent = r.spent + cost } → IsRowOfCost desk rows name cost t
+cost_row rows desk cost name r t are had is = record {
+  row = r;
+  had = had;
+  is = is;
+  numbered = let place = found_at (is_tenant desk name) rows r had in known_number rows are r t place.0 place.1 (ap (λ (x : StoredTenant). x.number) is) (ap (λ (x : StoredTenant). x.desk) is) (ap (λ (x : StoredTenant). x.name) is);
+}
+
+same_cost : (standing : JobStanding) (result : StoredResult) → CameTo standing result → spent_of_result result ≡ spent_by_job standing
+same_cost stands.Open result came = absurd came
+same_cost (stands.Reported report) (stored.Failed code) came = absurd came
+same_cost (stands.Reported report) (stored.Reported r) came = sym came.0
+same_cost (stands.Failed refusal) (stored.Failed code) came = refl
+same_cost (stands.Failed refusal) (stored.Reported r) came = absurd came
+
+pub end_rows : (rows : List StoredTenant) (desk number credit : ℕ) (tenant : List ℕ) (outcome : Result Report ℕ) (s : SettledJob) → s.outcome.desk ≡ desk → s.outcome.number ≡ number → CameTo (settled credit outcome) s.outcome.outcome → IsRowOfCost desk rows tenant (spent_of_result s.outcome.outcome) s.tenant
+    → (l : Ledgers) (job : StoredJob) → l.tenants ≡ rows → job_record l desk number ≡ Some job → job.tenant ≡ tenant → job.credit ≡ credit → AreRowsOfEnd desk l number outcome s
+end_rows rows desk number credit tenant outcome s at numbered came row l job same was named credited =
+    let standing : settled credit outcome ≡ settled job.credit outcome = ap (λ (c : ℕ). settled c outcome) (sym credited) in
+    let cost : spent_of_result s.outcome.outcome ≡ spent_by_job (settled job.credit outcome) = same_cost (settled credit outcome) s.outcome.outcome came ∙ ap spent_by_job standing in record {
+      at = at;
+      numbered = numbered;
+      job = job;
+      was = was;
+      came = subst (λ (x : JobStanding). CameTo x s.outcome.outcome) standing came;
+      row = row.row;
+      had = ap (λ (n : List ℕ). tenant_named l desk n) named ∙ ap (find (is_tenant desk tenant)) same ∙ row.had;
+      tenant = row.is ∙ ap (λ (c : ℕ). record row.row { spent = row.row.spent + c }) cost;
+      own = subst (λ (ts : List StoredTenant). HasItsNumber ts s.tenant) (sym same) row.numbered;
+    }

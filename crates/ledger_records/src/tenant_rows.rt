@@ -4,9 +4,11 @@ ghost use Rattle.std.specs.Prelude.{◌≡◌, IfOk, None, OnOk, find, length, o
 ghost use Rattle.desk_records.specs.Stored.{Ledgers};
 ghost use Rattle.ledger_records.specs.ChangedRows.{IsRowOfGrant};
 ghost use Rattle.ledger_records.specs.LedgerRecords.{is_tenant};
-ghost use Rattle.ledger_records.specs.TenantRows.{AreTenantRows};
+ghost use Rattle.ledger_records.specs.TenantRows.{AreTenantRows, spent_of_result};
 
-use desk_records::StoredTenant;
+use crate::written_rows::outcome_written;
+use accounts::SharedReport;
+use desk_records::{SettledJob, StoredOutcome, StoredResult, StoredTenant};
 use desk_store::{LoadFault, StoreTable};
 use sqlite_trees::error::StoreError;
 use sqlite_value::value::Bytes;
@@ -74,6 +76,16 @@ fn check_rows(rows: &[StoredTenant]) -> Result<(), LoadFault>
     Ok(())
 }
 
+// What an outcome spent.
+fn spent_in(outcome: &StoredResult) -> u32
+    ensures { result ≡ spent_of_result outcome.now }
+{
+    match outcome {
+        StoredResult::Failed(_) => 0,
+        StoredResult::Reported(report) => report.spent,
+    }
+}
+
 // The bytes once more.
 fn copied(alloc: Global, bytes: &Bytes) -> Result<Bytes, AllocError>
     ensures { IfOk result (λ copy. copy ≡ bytes.now) }
@@ -82,10 +94,13 @@ fn copied(alloc: Global, bytes: &Bytes) -> Result<Bytes, AllocError>
 }
 
 impl TenantRows {
-    ghost use Rattle.std.specs.Prelude.{◌≡◌, ◌≤◌, IfOk, OnErr, OnOk, find, length, option_map, slice_get};
+    ghost use Rattle.std.specs.Prelude.{◌≡◌, ◌≤◌, IfOk, OnErr, OnOk, Some, find, length, option_map, slice_get};
     ghost use Rattle.sqlite_keyed.specs.Keyed.{insert_by};
     ghost use Rattle.desk_records.specs.Made.{tenant_key};
-    ghost use Rattle.ledger_records.specs.LedgerRecords.{HasItsNumber};
+    ghost use Rattle.desk_records.specs.declared.stored_job.StoredJob.{StoredJob};
+    ghost use Rattle.ledger_records.specs.ChangedRows.{AreRowsOfEnd};
+    ghost use Rattle.ledger_records.specs.LedgerRecords.{HasItsNumber, job_record};
+    ghost use Rattle.ledger_records.specs.TenantRows.{IsRowOfCost};
 
     /// All rows, as they are loaded. The first one that stands elsewhere, or is that of a tenant who
     /// has one, is refused.
@@ -161,6 +176,59 @@ impl TenantRows {
             name,
             granted,
             spent: row.spent,
+        })
+    }
+
+    // The row of a tenant behind the end of a job that spent so much.
+    fn charged(
+        &self,
+        alloc: Global,
+        desk: u16,
+        name: &[u8],
+        cost: u32,
+    ) -> Result<StoredTenant, StoreError>
+        ensures { IfOk result (λ t. IsRowOfCost desk self.now name.now cost t) }
+    {
+        let _ = &self.rows; // for the proof
+        let Some(row) = self.row_of(desk, name) else {
+            return Err(StoreError::Unstorable);
+        };
+        let Some(spent) = row.spent.checked_add(u64::from(cost)) else {
+            return Err(StoreError::Unstorable);
+        };
+        Ok(StoredTenant {
+            number: row.number,
+            desk: row.desk,
+            name: copied(alloc, &row.name)?,
+            granted: row.granted,
+            spent,
+        })
+    }
+
+    /// The rows of a job that is over, with its tenant's. The job is that of its row, by its tenant
+    /// and its credit.
+    pub fn settled(
+        &self,
+        alloc: Global,
+        desk: u16,
+        number: u64,
+        tenant: &[u8],
+        credit: u32,
+        outcome: &Result<SharedReport, u8>,
+    ) -> Result<SettledJob, StoreError>
+        ensures { IfOk result (λ s. (l : Ledgers) (job : StoredJob) → l.tenants ≡ self.now
+            → job_record l desk number ≡ Some job → job.tenant ≡ tenant.now → job.credit ≡ credit
+            → AreRowsOfEnd desk l number outcome.now s) }
+    {
+        let written = outcome_written(alloc, credit, outcome)?;
+        let row = self.charged(alloc, desk, tenant, spent_in(&written))?;
+        Ok(SettledJob {
+            outcome: StoredOutcome {
+                desk,
+                number,
+                outcome: written,
+            },
+            tenant: row,
         })
     }
 }
