@@ -17,8 +17,10 @@ pub use restored_desks::restore_desks;
 pub use restored_job::RestoredJob;
 
 // the rows of changes
+mod taken_rows;
 mod tenant_rows;
 mod written_rows;
 
+pub use taken_rows::taken_written;
 pub use tenant_rows::TenantRows;
 pub use written_rows::{outcome_written, programs_written};
