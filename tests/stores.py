@@ -42,11 +42,12 @@ def records(number):
     if number == 0:
         return ""
     jobs = range(max(1, number - KEPT + 1), number + 1)
-    lines = [f"tenant 1 2 ann {number * 1000} {max(0, number - KEPT) * 3}"]
-    lines += [f"job 2 {at} ann 10 {'-' if at % 2 else 'again'} {blob(at)} 2" for at in jobs]
+    lines = [f"tenant 1 2 ann {number * 1000} {number * 3}"]
+    lines += [f"job 2 {at} ann 10 {blob(at)} 2" for at in jobs]
     lines += [f"outcome 2 {at} failed 82" if at % 3 == 0 else f"outcome 2 {at} reported 3 7 {blob(at)}" for at in jobs]
     if number > KEPT:
         lines.append(f"desk 2 {number}")
+    lines += [f"key 2 {at} again" for at in jobs if at % 2 == 0]
     return "".join(line + "\n" for line in lines)
 
 

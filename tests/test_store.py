@@ -99,8 +99,8 @@ class Kept(Room):
             self.assertEqual(base.execute("PRAGMA user_version").fetchall(), [(0x54454C01,)])
             self.assertEqual(base.execute("SELECT desk, name, granted FROM tenant").fetchall(), [(2, "ann", number * 1000)])
             self.assertEqual(base.execute("SELECT taken FROM desk WHERE number = 2").fetchall(), [(number,)])
-            asked = ("SELECT job.number, key, spent, code FROM job JOIN outcome USING (id) WHERE job.desk = 2"
-                     " ORDER BY job.number DESC LIMIT 1")
+            asked = ("SELECT job.number, key, spent, code FROM job JOIN outcome USING (id) LEFT JOIN job_key USING (id)"
+                     " WHERE job.desk = 2 ORDER BY job.number DESC LIMIT 1")
             failed = number % 3 == 0
             self.assertEqual(base.execute(asked).fetchall(), [(number, None if number % 2 else "again",
                                                                None if failed else 3, 82 if failed else None)])

@@ -8,8 +8,8 @@ use Rattle.desk_store.specs.Tables.{tree_of}
 use Rattle.desk_store.specs.declared.fault.LoadFault.{LoadFault}
 use Rattle.desk_store.specs.declared.fault.LoadFault.TheVariants.{Store, Damaged}
 use Rattle.desk_store.specs.declared.table.StoreTable.{StoreTable}
-use Rattle.desk_store.specs.declared.table.StoreTable.TheVariants.{Tenant, Job, Outcome, Desk}
-use Rattle.desk_records.specs.Records.{IsNarrowDesk, IsNarrowJob, IsNarrowOutcome, IsNarrowTenant, desk_row, outcome_row, job_row, tenant_row}
+use Rattle.desk_store.specs.declared.table.StoreTable.TheVariants.{Tenant, Job, Outcome, Desk, Key}
+use Rattle.desk_records.specs.Records.{IsNarrowDesk, IsNarrowJob, IsNarrowKey, IsNarrowOutcome, IsNarrowTenant, desk_row, key_row, outcome_row, job_row, tenant_row}
 use Rattle.desk_records.specs.Stored.{Explains, HoldsNone, IsNobodys}
 
 nobody_has : {R : Type 0} (row : R → Row) (is_narrow : R → Type 0) (here : Row) (before behind : List Row) → ((it : R) → is_narrow it → row it ≡ here → ⊥) → (all : List R) → All is_narrow all
@@ -41,3 +41,7 @@ module _ (db : Trees) where
   pub desks_explain : (fault : LoadFault) → IsDamage Desk desk_row IsNarrowDesk (db (tree_of Desk)) fault → Explains db fault
   desks_explain (Store error) damage = tt
   desks_explain (Damaged table key) damage = told Desk table key damage.0 damage.1 (λ l narrow stored. none_has desk_row IsNarrowDesk _ key damage.1 l.desks narrow.desks stored.desks)
+
+  pub keys_explain : (fault : LoadFault) → IsDamage Key key_row IsNarrowKey (db (tree_of Key)) fault → Explains db fault
+  keys_explain (Store error) damage = tt
+  keys_explain (Damaged table key) damage = told Key table key damage.0 damage.1 (λ l narrow stored. none_has key_row IsNarrowKey _ key damage.1 l.keys narrow.keys stored.keys)

@@ -2,13 +2,19 @@
 use Rattle.std.proofs.Common.{◌≡◌, ◌≤◌, IsTrue, inl, inr, ap, refl, ◌∙◌, arith}
 use Rattle.sqlite_trees.specs.declared.store.Store.{Ghosts}
 use Rattle.sqlite_trees.specs.Tree.{Trees}
-use Rattle.sqlite_trees.specs.declared.error.StoreError.{StoreError}
-use Rattle.sqlite_trees.specs.declared.error.StoreError.TheVariants.{OutOfMemory, Io, Corrupt, Full, Broken, Unstorable}
-use Rattle.desk_store.specs.RowStores.{ChangesBatch, FailsFor, IsCalm, IsStoreOpen, IsUndone, now_in}
-use Rattle.desk_store.specs.Tables.{is_plain}
+use Rattle.desk_store.specs.RowStores.{ChangesBatch, IsCalm, now_in}
+use Rattle.desk_records.specs.Changes.{GoesOn}
 
-pub steps_then : {S : Type 0} (g : Ghosts S) (a b c : S) (mid : Trees) (edit : Trees → Trees) → ChangesBatch g a b mid → ChangesBatch g b c (edit (now_in g b)) → ChangesBatch g a c (edit mid)
-steps_then g a b c mid edit first second = record { was_open = first.was_open; is_open = second.is_open; now_is = second.now_is ∙ ap edit first.now_is; kept_is = second.kept_is ∙ first.kept_is; reals_are = second.reals_are ∙ first.reals_are }
+pub goes : {S : Type 0} (g : Ghosts S) (a b : S) (rows : Trees) → ChangesBatch g a b rows → GoesOn g a b rows
+goes g a b rows step = record { now_is = step.now_is; kept_is = step.kept_is; opens = (λ h. step.is_open, λ h. step.was_open); reals_are = step.reals_are }
+
+pub goes_then : {S : Type 0} (g : Ghosts S) (a b c : S) (mid : Trees) (edit : Trees → Trees) → GoesOn g a b mid → GoesOn g b c (edit (now_in g b)) → GoesOn g a c (edit mid)
+goes_then g a b c mid edit first second = record {
+  now_is = second.now_is ∙ ap edit first.now_is;
+  kept_is = second.kept_is ∙ first.kept_is;
+  opens = (λ h. second.opens.0 (first.opens.0 h), λ h. first.opens.1 (second.opens.1 h));
+  reals_are = second.reals_are ∙ first.reals_are;
+}
 
 pub calm_then : {S : Type 0} (g : Ghosts S) (a b c : S) → IsCalm g a b → IsCalm g b c → IsCalm g a c
 calm_then g a b c first second = record {
@@ -21,21 +27,3 @@ calm_then g a b c first second = record {
   ];
   outcomes = λ db h. first.outcomes db (second.outcomes db h);
 }
-
--- a later call's cause is one of all calls, where what it is given can't be stored for the same reason
-pub fails_later : {S : Type 0} (g : Ghosts S) (a b c : S) (here whole : Type 0) (error : StoreError) → g.faults a ≤ g.faults b → (IsStoreOpen g a → IsStoreOpen g b) → (here → whole) → FailsFor g here b c error → FailsFor g whole a c error
-fails_later g a b c here whole OutOfMemory more opens wider h = tt
-fails_later g a b c here whole Io more opens wider h = omega (arith, more, h)
-fails_later g a b c here whole Corrupt more opens wider h = omega (arith, more, h)
-fails_later g a b c here whole Full more opens wider h = omega (arith, more, h)
-fails_later g a b c here whole Broken more opens wider h = λ is_open. h (opens is_open)
-fails_later g a b c here whole Unstorable more opens wider h = wider h
-
--- nothing but memory and width keeps a record from being written
-pub plain_fails : {S : Type 0} (g : Ghosts S) (a b : S) (unstorable : Type 0) (error : StoreError) → IsTrue (is_plain error) → (error ≡ Unstorable → unstorable) → FailsFor g unstorable a b error
-plain_fails g a b unstorable OutOfMemory plain wide = tt
-plain_fails g a b unstorable Io plain wide = absurd (cc)
-plain_fails g a b unstorable Corrupt plain wide = absurd (cc)
-plain_fails g a b unstorable Full plain wide = absurd (cc)
-plain_fails g a b unstorable Broken plain wide = absurd (cc)
-plain_fails g a b unstorable Unstorable plain wide = wide refl

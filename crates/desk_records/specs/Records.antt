@@ -4,9 +4,10 @@ use Rattle.sqlite_value.specs.declared.value.Value.{Value}
 use Rattle.sqlite_value.specs.declared.value.Value.TheVariants.{Null, Int, Real, Text, Blob}
 use Rattle.sqlite_value.specs.Order.{Row, bytes, column}
 use Rattle.sqlite_trees.specs.Objects.{number_in}
-use Rattle.desk_records.specs.Columns.{id_of, key_in, key_value, most_numbers, number_below}
+use Rattle.desk_records.specs.Columns.{id_of, most_numbers, number_below}
 use Rattle.desk_records.specs.declared.stored_desk.StoredDesk.{StoredDesk}
 use Rattle.desk_records.specs.declared.stored_job.StoredJob.{StoredJob}
+use Rattle.desk_records.specs.declared.stored_key.StoredKey.{StoredKey}
 use Rattle.desk_records.specs.declared.stored_outcome.StoredResult.{StoredResult}
 use Rattle.desk_records.specs.declared.stored_outcome.StoredResult.TheVariants.{Failed, Reported}
 use Rattle.desk_records.specs.declared.stored_outcome.StoredOutcome.{StoredOutcome}
@@ -18,12 +19,12 @@ use Rattle.desk_records.specs.declared.stored_tenant.StoredTenant.{StoredTenant}
 abbrev pub tenant_row : StoredTenant → Row
 tenant_row t =
     Int (pos t.number) ∷ Null ∷ Int (pos t.desk) ∷ Text t.name ∷ Int (pos t.granted)
-    ∷ Int (pos t.past) ∷ []
+    ∷ Int (pos t.spent) ∷ []
 
 abbrev pub job_row : StoredJob → Row
 job_row j =
     Int (pos (id_of j.desk j.number)) ∷ Null ∷ Int (pos j.desk) ∷ Int (pos j.number)
-    ∷ Text j.tenant ∷ Int (pos j.credit) ∷ key_value j.key ∷ Blob j.programs ∷ Blob j.buffer ∷ []
+    ∷ Text j.tenant ∷ Int (pos j.credit) ∷ Blob j.programs ∷ Blob j.buffer ∷ []
 
 -- a failure has a code, and a report all other columns
 abbrev pub result_values : StoredResult → List Value
@@ -39,13 +40,18 @@ outcome_row o =
 abbrev pub desk_row : StoredDesk → Row
 desk_row d = Int (pos d.desk) ∷ Null ∷ Int (pos d.taken) ∷ []
 
+abbrev pub key_row : StoredKey → Row
+key_row k =
+    Int (pos (id_of k.desk k.number)) ∷ Null ∷ Int (pos k.desk) ∷ Int (pos k.number) ∷ Text k.key
+    ∷ []
+
 -- ---- numbers that a row holds
 
 pub record IsNarrowTenant (t : StoredTenant) : Type 0 where
   pub number : t.number < 2 ^ 32
   pub desk : t.desk < 2 ^ 16
   pub granted : t.granted < 2 ^ 63
-  pub past : t.past < 2 ^ 63
+  pub spent : t.spent < 2 ^ 63
 
 pub record IsNarrowJob (j : StoredJob) : Type 0 where
   pub desk : j.desk < 2 ^ 16
@@ -65,6 +71,10 @@ pub record IsNarrowDesk (d : StoredDesk) : Type 0 where
   pub desk : d.desk < 2 ^ 16
   pub taken : d.taken < 2 ^ 63
 
+pub record IsNarrowKey (k : StoredKey) : Type 0 where
+  pub desk : k.desk < 2 ^ 16
+  pub number : k.number < most_numbers
+
 -- ---- the record that has a row, if one has it
 
 abbrev pub tenant_of_row : Row → StoredTenant
@@ -74,7 +84,7 @@ tenant_of_row r =
       desk = number_below 65536 (number_in (column r 2));
       name = bytes (column r 3);
       granted = number_in (column r 4);
-      past = number_in (column r 5);
+      spent = number_in (column r 5);
     }
 
 abbrev pub job_of_row : Row → StoredJob
@@ -84,9 +94,8 @@ job_of_row r =
       number = number_in (column r 3);
       tenant = bytes (column r 4);
       credit = number_below 4294967296 (number_in (column r 5));
-      key = key_in (column r 6);
-      programs = bytes (column r 7);
-      buffer = bytes (column r 8);
+      programs = bytes (column r 6);
+      buffer = bytes (column r 7);
     }
 
 abbrev pub report_of_row : Row → StoredReport
@@ -120,3 +129,11 @@ outcome_of_row r =
 abbrev pub desk_of_row : Row → StoredDesk
 desk_of_row r =
     record { desk = number_below 65536 (number_in (column r 0)); taken = number_in (column r 2) }
+
+abbrev pub key_of_row : Row → StoredKey
+key_of_row r =
+    record {
+      desk = number_below 65536 (number_in (column r 2));
+      number = number_in (column r 3);
+      key = bytes (column r 4);
+    }

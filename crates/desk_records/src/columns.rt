@@ -7,7 +7,7 @@ ghost use Rattle.sqlite_value.specs.declared.value.Value.TheVariants.{Blob, Int,
 ghost use Rattle.sqlite_trees.specs.Objects.{number_in};
 ghost use Rattle.sqlite_trees.specs.declared.error.StoreError.TheVariants.{OutOfMemory, Unstorable};
 ghost use Rattle.desk_store.specs.Tables.{is_plain};
-ghost use Rattle.desk_records.specs.Columns.{id_of, key_in, key_value, most_numbers, number_below};
+ghost use Rattle.desk_records.specs.Columns.{id_of, most_numbers, number_below};
 
 use sqlite_trees::error::StoreError;
 use sqlite_value::row::Row;
@@ -123,18 +123,6 @@ pub(crate) fn push_blob(row: &mut Row, blob: &Bytes) -> Result<(), StoreError>
     Ok(())
 }
 
-/// Adds a key, or NULL where there is none.
-pub(crate) fn push_key(row: &mut Row, key: &Option<Bytes>) -> Result<(), StoreError>
-    ensures ok { OnOk result (row.new ≡ row.old ++ key_value key.now ∷ []) }
-    ensures stored { IfErr result (λ error. error ≡ OutOfMemory) }
-{
-    match key {
-        Some(key) => row.push(ValueRef::Text(key.as_slice()))?,
-        None => row.push(ValueRef::Null)?,
-    }
-    Ok(())
-}
-
 /// The number in a column, and 0 where it has none.
 pub(crate) fn number_at(row: &Row, place: usize) -> u64
     ensures { result ≡ number_in (column row.now place) }
@@ -174,15 +162,5 @@ pub(crate) fn bytes_at(alloc: Global, row: &Row, place: usize) -> Result<Bytes, 
         ValueRef::Text(text) => Bytes::from_slice(alloc, text),
         ValueRef::Blob(blob) => Bytes::from_slice(alloc, blob),
         _ => Bytes::from_slice(alloc, &[]),
-    }
-}
-
-/// The key in a column, and none where it is NULL.
-pub(crate) fn key_at(alloc: Global, row: &Row, place: usize) -> Result<Option<Bytes>, AllocError>
-    ensures { IfOk result (λ key. key ≡ key_in (column row.now place)) }
-{
-    match row.get(place) {
-        ValueRef::Null => Ok(None),
-        _ => Ok(Some(bytes_at(alloc, row, place)?)),
     }
 }

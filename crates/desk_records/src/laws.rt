@@ -5,7 +5,7 @@ ghost use Rattle.sqlite_trees.specs.Tree.{Trees};
 ghost use Rattle.desk_records.specs.Changes.{IsNarrowChange, all_changed};
 ghost use Rattle.desk_records.specs.Made.{all_made};
 ghost use Rattle.desk_records.specs.Stored.{AreNarrow, IsStored, Ledgers};
-ghost use Rattle.desk_records.specs.declared.changes.StoredChange.{StoredChange};
+ghost use Rattle.desk_records.specs.declared.stored_change.StoredChange.{StoredChange};
 
 /// Changes of the rows are the same changes of the records.
 pub fn records_follow_rows()

@@ -6,19 +6,21 @@ ghost use Rattle.desk_records.specs.Stored.{AreNarrow, Explains, IsStored};
 
 use crate::stored_desk::StoredDesk;
 use crate::stored_job::StoredJob;
+use crate::stored_key::StoredKey;
 use crate::stored_outcome::StoredOutcome;
 use crate::stored_tenant::StoredTenant;
 use desk_store::{LoadFault, RowStore};
 use sqlite_trees::store::Store;
 use std::marker::Model;
 
-/// All records of the tables, each kind in the order of its rows. Contracts see the four lists.
+/// All records of the tables, each kind in the order of its rows. Contracts see the five lists.
 #[derive(Debug, Drop)]
 pub struct StoredRecords {
     pub tenants: Vec<StoredTenant>,
     pub jobs: Vec<StoredJob>,
     pub outcomes: Vec<StoredOutcome>,
     pub desks: Vec<StoredDesk>,
+    pub keys: Vec<StoredKey>,
 }
 
 impl Model for StoredRecords {
@@ -31,6 +33,7 @@ impl Model for StoredRecords {
       jobs = r.jobs.items;
       outcomes = r.outcomes.items;
       desks = r.desks.items;
+      keys = r.keys.items;
     } };
 }
 
@@ -63,10 +66,15 @@ pub fn load_records<S: Store>(rows: &mut RowStore<S>) -> Result<StoredRecords, L
         Ok(desks) => desks,
         Err(fault) => return Err(fault),
     };
+    let keys = match rows.load::<StoredKey>() {
+        Ok(keys) => keys,
+        Err(fault) => return Err(fault),
+    };
     Ok(StoredRecords {
         tenants,
         jobs,
         outcomes,
         desks,
+        keys,
     })
 }

@@ -1,8 +1,8 @@
 //! A job's row.
 
 use crate::columns::{
-    begin_row, bytes_at, desk_at, key_at, narrow_at, number_at, push_blob, push_desk, push_key,
-    push_narrow, push_number, push_text, stored_id,
+    begin_row, bytes_at, desk_at, narrow_at, number_at, push_blob, push_desk, push_narrow,
+    push_number, push_text, stored_id,
 };
 use desk_store::{Record, StoreTable};
 use sqlite_trees::error::StoreError;
@@ -18,7 +18,6 @@ pub struct StoredJob {
     /// Its tenant's name.
     pub tenant: Bytes,
     pub credit: u32,
-    pub key: Option<Bytes>,
     pub programs: Bytes,
     pub buffer: Bytes,
 }
@@ -27,19 +26,16 @@ impl StoredJob {
     ghost use Rattle.std.specs.Prelude.{◌≡◌, ◌<◌, ◌^◌, ◌++◌, ◌∷◌, [], pos, IfErr, OnOk};
     ghost use Rattle.sqlite_value.specs.declared.value.Value.TheVariants.{Blob, Int, Text};
     ghost use Rattle.sqlite_trees.specs.declared.error.StoreError.TheVariants.{OutOfMemory};
-    ghost use Rattle.desk_records.specs.Columns.{key_value};
 
     // Adds the columns that the submit gives.
     fn push_submit(&self, out: &mut Row) -> Result<(), StoreError>
         ensures ok { OnOk result (out.new ≡ out.old ++ (Text self.now.tenant
-            ∷ Int (pos self.now.credit) ∷ key_value self.now.key ∷ Blob self.now.programs
-            ∷ Blob self.now.buffer ∷ [])) }
+            ∷ Int (pos self.now.credit) ∷ Blob self.now.programs ∷ Blob self.now.buffer ∷ [])) }
         ensures narrow { OnOk result (self.now.credit < 2 ^ 32) }
         ensures stored { IfErr result (λ error. error ≡ OutOfMemory) }
     {
         push_text(out, &self.tenant)?;
         push_narrow(out, self.credit)?;
-        push_key(out, &self.key)?;
         push_blob(out, &self.programs)?;
         push_blob(out, &self.buffer)
     }
@@ -75,9 +71,8 @@ impl Record for StoredJob {
             number: number_at(from, 3),
             tenant: bytes_at(alloc, from, 4)?,
             credit: narrow_at(from, 5),
-            key: key_at(alloc, from, 6)?,
-            programs: bytes_at(alloc, from, 7)?,
-            buffer: bytes_at(alloc, from, 8)?,
+            programs: bytes_at(alloc, from, 6)?,
+            buffer: bytes_at(alloc, from, 7)?,
         })
     }
 

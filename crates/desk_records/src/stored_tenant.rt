@@ -9,7 +9,7 @@ use sqlite_value::row::Row;
 use sqlite_value::value::Bytes;
 use std::alloc::{AllocError, Global};
 
-/// A tenant of a desk: the sum of its grants, and what those of its jobs spent that are forgotten.
+/// A tenant of a desk: the sum of its grants, and what its jobs spent, also those that are forgotten.
 #[derive(Debug, Drop)]
 pub struct StoredTenant {
     /// The number of its row.
@@ -17,7 +17,7 @@ pub struct StoredTenant {
     pub desk: u16,
     pub name: Bytes,
     pub granted: u64,
-    pub past: u64,
+    pub spent: u64,
 }
 
 impl Record for StoredTenant {
@@ -42,7 +42,7 @@ impl Record for StoredTenant {
         push_desk(out, self.desk)?;
         push_text(out, &self.name)?;
         push_number(out, self.granted)?;
-        push_number(out, self.past)
+        push_number(out, self.spent)
     }
 
     fn take(alloc: Global, from: &Row) -> Result<StoredTenant, AllocError> {
@@ -51,7 +51,7 @@ impl Record for StoredTenant {
             desk: desk_at(from, 2),
             name: bytes_at(alloc, from, 3)?,
             granted: number_at(from, 4),
-            past: number_at(from, 5),
+            spent: number_at(from, 5),
         })
     }
 

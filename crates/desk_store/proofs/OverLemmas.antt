@@ -9,7 +9,7 @@ use Rattle.sqlite_catalog.specs.Listing.{IsSound}
 use Rattle.sqlite.specs.Effect.{Database}
 use Rattle.sqlite.specs.State.{IsLive}
 use Rattle.sqlite.specs.Held.{Held, state}
-use Rattle.desk_store.specs.declared.table.StoreTable.TheVariants.{Tenant, Job, Outcome, Desk}
+use Rattle.desk_store.specs.declared.table.StoreTable.TheVariants.{Tenant, Job, Outcome, Desk, Key}
 use Rattle.desk_store.specs.Tables.{tree_of}
 use Rattle.desk_store.specs.Layout.{AreStoreTrees, IsStoreSchema}
 use Rattle.desk_store.specs.RowStores.{IsRowStore, IsOpenedOver}
@@ -34,7 +34,7 @@ module _ {S : Type 0} (g : Ghosts S) (conn : Held S) (s : S) (undone : IsRolledB
       → (IsClean (g.view s) → IsTrue (g.view s).is_numbered) → (IsTrue (state g conn).is_open → (state g conn).now ≡ (state g conn).committed) → IsLive (state g conn) → IsStoreSchema conn.schema
       → AreStoreTrees (g.view s).shape → IsRowStore (g.view s) (g.recovers s)
   rows_over dirty settled unaltered numbered auto live ours shapes = record {
-    shaped = λ _ t. elim t as (λ k. (g.view s).shape (tree_of k) ≡ TableTree) [ Tenant ↦ shapes.0 | Job ↦ shapes.1 | Outcome ↦ shapes.2 | Desk ↦ shapes.3 ];
+    shaped = λ _ t. elim t as (λ k. (g.view s).shape (tree_of k) ≡ TableTree) [ Tenant ↦ shapes.0 | Job ↦ shapes.1 | Outcome ↦ shapes.2 | Desk ↦ shapes.3 | Key ↦ shapes.4 ];
     unaltered = λ clean. unaltered (sound clean) (ap (λ (db : Trees). db catalog_tree) (found clean ∙ sym (kept clean)));
     mended = λ h. (undone.undone h).1;
     numbered = numbered;

@@ -23,7 +23,7 @@ use Rattle.sqlite_schema.specs.Rules.{are_present, are_typed, is_of, passes}
 use Rattle.sqlite_catalog.specs.Listing.{IsSound, Lists}
 use Rattle.desk_store.specs.declared.table.ColumnForm.{ColumnForm}
 use Rattle.desk_store.specs.declared.table.StoreTable.{StoreTable}
-use Rattle.desk_store.specs.declared.table.StoreTable.TheVariants.{Tenant, Job, Outcome, Desk}
+use Rattle.desk_store.specs.declared.table.StoreTable.TheVariants.{Tenant, Job, Outcome, Desk, Key}
 use Rattle.desk_store.specs.Layout.{HaveColumns, HaveForms, IsStoreSchema, IsStoreTable}
 use Rattle.desk_store.specs.Tables.{IsRowOf, columns_of, fits, suits_form, tree_of}
 
@@ -43,13 +43,15 @@ same_table a b h = same_Some a b (sym (there a) ∙ ap at_tree h ∙ there b)
     at_tree zero = Some Tenant
     at_tree (suc zero) = Some Job
     at_tree (suc (suc zero)) = Some Outcome
-    at_tree (suc (suc (suc n))) = Some Desk
+    at_tree (suc (suc (suc zero))) = Some Desk
+    at_tree (suc (suc (suc (suc n)))) = Some Key
 
     there : (t : StoreTable) → at_tree (tree_of t) ≡ Some t
     there Tenant = refl
     there Job = refl
     there Outcome = refl
     there Desk = refl
+    there Key = refl
 
 later_than : (at : ℕ) → (0 == at + 1) ≡ false
 later_than at = grind (arith, nat_tests)
@@ -141,7 +143,7 @@ sound_after : (schema : Schema) (db : Trees) (t : StoreTable) (rows : List Row) 
     → ((rule : Constraint) (s : SqlTable) → IsStoreTable s → s.tree ≡ tree_of t → AllByRecursion (λ row. passes rule schema db s row ≡ true) (db s.tree) → AllByRecursion (λ row. passes rule schema db s row ≡ true) rows)
     → IsSound schema (with_tree db (tree_of t) rows)
 sound_after schema db t rows ours sound edit = record {
-  lists = elim t as (λ k. Lists (with_tree db (tree_of k) rows catalog_tree) schema) [ Tenant ↦ sound.lists | Job ↦ sound.lists | Outcome ↦ sound.lists | Desk ↦ sound.lists ];
+  lists = elim t as (λ k. Lists (with_tree db (tree_of k) rows catalog_tree) schema) [ Tenant ↦ sound.lists | Job ↦ sound.lists | Outcome ↦ sound.lists | Desk ↦ sound.lists | Key ↦ sound.lists ];
   obeys = record {
     rules = λ rule. all_kept rule schema ours.indexes db (tree_of t) rows schema.tables ours.tables (edit rule) (sound.obeys.rules rule);
     indexed = rw ours.indexes tt;

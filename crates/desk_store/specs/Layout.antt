@@ -51,4 +51,5 @@ pub record IsStoreSchema (schema : Schema) : Type 0 where
 -- each table has a tree
 abbrev pub AreStoreTrees : (ℕ → Shape) → Type 0
 AreStoreTrees shape =
-    (shape 0 ≡ TableTree) × (shape 1 ≡ TableTree) × (shape 2 ≡ TableTree) × (shape 3 ≡ TableTree)
+    (shape 0 ≡ TableTree) × (shape 1 ≡ TableTree) × (shape 2 ≡ TableTree)
+    × (shape 3 ≡ TableTree) × (shape 4 ≡ TableTree)

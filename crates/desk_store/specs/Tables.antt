@@ -11,19 +11,21 @@ use Rattle.sqlite_schema.specs.declared.schema.Kind.TheVariants as kind
 use Rattle.sqlite_schema.specs.Rules.{is_of}
 use Rattle.desk_store.specs.declared.table.ColumnForm.{ColumnForm}
 use Rattle.desk_store.specs.declared.table.StoreTable.{StoreTable}
-use Rattle.desk_store.specs.declared.table.StoreTable.TheVariants.{Tenant, Job, Outcome, Desk}
+use Rattle.desk_store.specs.declared.table.StoreTable.TheVariants.{Tenant, Job, Outcome, Desk, Key}
 
 abbrev pub tree_of : StoreTable → ℕ
 tree_of Tenant = 0
 tree_of Job = 1
 tree_of Outcome = 2
 tree_of Desk = 3
+tree_of Key = 4
 
 abbrev pub table_name : StoreTable → List ℕ
 table_name Tenant = codes "tenant"
 table_name Job = codes "job"
 table_name Outcome = codes "outcome"
 table_name Desk = codes "desk"
+table_name Key = codes "job_key"
 
 abbrev pub required : Kind → ColumnForm
 required kind = record { kind = kind; may_be_null = false }
@@ -31,19 +33,20 @@ required kind = record { kind = kind; may_be_null = false }
 abbrev pub optional : Kind → ColumnForm
 optional kind = record { kind = kind; may_be_null = true }
 
--- The columns behind the key. Of a tenant: desk, name, granted and past. Of a job: desk, number,
--- tenant, credit, key, programs and buffer. Of an outcome: desk, number, code, spent, returned,
--- buffer and tasks. Of a desk: taken.
+-- The columns behind the key. Of a tenant: desk, name, granted and spent. Of a job: desk, number,
+-- tenant, credit, programs and buffer. Of an outcome: desk, number, code, spent, returned, buffer
+-- and tasks. Of a desk: taken. Of a job's key: desk, number and key.
 abbrev pub columns_of : StoreTable → List ColumnForm
 columns_of Tenant =
     required kind.Integer ∷ required kind.Text ∷ required kind.Integer ∷ required kind.Integer ∷ []
 columns_of Job =
     required kind.Integer ∷ required kind.Integer ∷ required kind.Text ∷ required kind.Integer
-    ∷ optional kind.Text ∷ required kind.Blob ∷ required kind.Blob ∷ []
+    ∷ required kind.Blob ∷ required kind.Blob ∷ []
 columns_of Outcome =
     required kind.Integer ∷ required kind.Integer ∷ optional kind.Integer ∷ optional kind.Integer
     ∷ optional kind.Integer ∷ optional kind.Blob ∷ optional kind.Blob ∷ []
 columns_of Desk = required kind.Integer ∷ []
+columns_of Key = required kind.Integer ∷ required kind.Integer ∷ required kind.Text ∷ []
 
 -- a value of the column's type
 abbrev pub suits_form : ColumnForm → Value → Bool

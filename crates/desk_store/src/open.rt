@@ -67,15 +67,13 @@ fn have_other_columns(columns: &[Column], table: StoreTable) -> bool
     let list = optional(Kind::Blob);
     match table {
         StoreTable::Tenant => have_forms(columns, &[number, text, number, number]),
-        StoreTable::Job => {
-            let key = optional(Kind::Text);
-            have_forms(columns, &[number, number, text, number, key, blob, blob])
-        }
+        StoreTable::Job => have_forms(columns, &[number, number, text, number, blob, blob]),
         StoreTable::Outcome => have_forms(
             columns,
             &[number, number, missing, missing, missing, list, list],
         ),
         StoreTable::Desk => have_forms(columns, &[number]),
+        StoreTable::Key => have_forms(columns, &[number, number, text]),
     }
 }
 
@@ -87,13 +85,14 @@ fn has_no_rule(table: &Table) -> bool
 
 fn table_of(tree: u32) -> Option<StoreTable>
     ensures some { IfSome result (λ table. tree ≡ tree_of table) }
-    ensures none { IfNone result (4 ≤ tree) }
+    ensures none { IfNone result (5 ≤ tree) }
 {
     match tree {
         0 => Some(StoreTable::Tenant),
         1 => Some(StoreTable::Job),
         2 => Some(StoreTable::Outcome),
         3 => Some(StoreTable::Desk),
+        4 => Some(StoreTable::Key),
         _ => None,
     }
 }
@@ -141,4 +140,5 @@ pub(crate) fn are_store_trees<S: Store>(store: &S) -> bool
         && store.shape(1) == Shape::Table
         && store.shape(2) == Shape::Table
         && store.shape(3) == Shape::Table
+        && store.shape(4) == Shape::Table
 }

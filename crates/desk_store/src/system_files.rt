@@ -13,13 +13,15 @@ use std::io::{self, ErrorKind, Read};
 // SQLite's text of the tables. Other programs read them by these names.
 const TABLES: &str = "BEGIN; \
 CREATE TABLE tenant (id INTEGER PRIMARY KEY, desk INTEGER NOT NULL, name TEXT NOT NULL, \
-granted INTEGER NOT NULL, past INTEGER NOT NULL) STRICT; \
+granted INTEGER NOT NULL, spent INTEGER NOT NULL) STRICT; \
 CREATE TABLE job (id INTEGER PRIMARY KEY, desk INTEGER NOT NULL, number INTEGER NOT NULL, \
-tenant TEXT NOT NULL, credit INTEGER NOT NULL, key TEXT, programs BLOB NOT NULL, \
+tenant TEXT NOT NULL, credit INTEGER NOT NULL, programs BLOB NOT NULL, \
 buffer BLOB NOT NULL) STRICT; \
 CREATE TABLE outcome (id INTEGER PRIMARY KEY, desk INTEGER NOT NULL, number INTEGER NOT NULL, \
 code INTEGER, spent INTEGER, returned INTEGER, buffer BLOB, tasks BLOB) STRICT; \
 CREATE TABLE desk (number INTEGER PRIMARY KEY, taken INTEGER NOT NULL) STRICT; \
+CREATE TABLE job_key (id INTEGER PRIMARY KEY, desk INTEGER NOT NULL, number INTEGER NOT NULL, \
+key TEXT NOT NULL) STRICT; \
 COMMIT";
 
 /// The calls on the files of a store. Only a call tells what it found, or why it failed.

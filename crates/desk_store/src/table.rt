@@ -16,6 +16,8 @@ pub enum StoreTable {
     Outcome,
     /// The desks of which a job is forgotten.
     Desk,
+    /// The keys by which jobs are remembered.
+    Key,
 }
 
 /// The type of a column, and whether a value may be missing in it.
@@ -35,6 +37,7 @@ impl StoreTable {
             StoreTable::Job => 1,
             StoreTable::Outcome => 2,
             StoreTable::Desk => 3,
+            StoreTable::Key => 4,
         }
     }
 
@@ -47,6 +50,7 @@ impl StoreTable {
             StoreTable::Job => b"job",
             StoreTable::Outcome => b"outcome",
             StoreTable::Desk => b"desk",
+            StoreTable::Key => b"job_key",
         }
     }
 }

@@ -1,5 +1,5 @@
 -- What is found in a list of records behind a put.
-use Rattle.std.proofs.Common.{◌≡◌, ℕ, zero, suc, ◌==◌, ◌≢◌, ◌<◌, ◌&&◌, ℤ, pos, Bool, true, false, not, cond, List, [], ◌∷◌, ◌++◌, length, find, Some, None, Ordering, Less, Equal, Greater, int_cmp, int_eq, refl, sym, ap, ◌∙◌, arith, slice_get, slice_set}
+use Rattle.std.proofs.Common.{◌≡◌, ℕ, zero, suc, ◌==◌, ◌≢◌, ◌<◌, ◌&&◌, ℤ, pos, Bool, true, false, not, cond, List, [], ◌∷◌, ◌++◌, ◌||◌, All, fold, length, find, Some, None, Ordering, Less, Equal, Greater, int_cmp, int_eq, refl, sym, ap, subst, ◌∙◌, arith, slice_get, slice_set}
 use Rattle.std.proofs.lemmas.List.Elements.{All-head, All-tail}
 use Rattle.std.proofs.lemmas.Bool.Decides.{nat_tests}
 use Rattle.std.proofs.lemmas.Cmp.{int_ranked}
@@ -13,7 +13,13 @@ use Rattle.sqlite_keyed.specs.Lists.{without_key}
 use Rattle.desk_records.specs.Columns.{id_of, most_numbers}
 use Rattle.desk_records.specs.Made.{tenant_key}
 use Rattle.desk_records.specs.declared.stored_tenant.StoredTenant.{StoredTenant}
+use Rattle.desk_records.proofs.MadeLemmas.{all_without}
+use Rattle.ledger_records.specs.ChangedRows.{is_number_in}
 use Rattle.ledger_records.specs.LedgerRecords.{HasItsNumber, is_tenant}
+
+pub or_true : (a b : Bool) → b ≡ true → (a || b) ≡ true
+or_true true b is = refl
+or_true false b is = is
 
 -- of numbers that differ one is below the other
 not_less : (a b : ℤ) → int_cmp a b ≡ Less → a ≡ b → ⊥
@@ -82,6 +88,14 @@ tenant_is desk name t is = go (t.desk == desk) refl is
     go true here is = (grind (arith, nat_tests), (bytes_eq-Decides t.name name).0 is)
     go false here is = absurd (cc)
 
+pub tenant_found : (desk : ℕ) (name : List ℕ) (xs : List StoredTenant) (t : StoredTenant) → find (is_tenant desk name) xs ≡ Some t → (t.desk ≡ desk) × (t.name ≡ name)
+tenant_found desk name [] t there = absurd (cc)
+tenant_found desk name (y ∷ ys) t there = go (is_tenant desk name y) refl there (λ later. tenant_found desk name ys t later)
+  where
+    go : (b : Bool) → is_tenant desk name y ≡ b → cond b (Some y) (find (is_tenant desk name) ys) ≡ Some t → (find (is_tenant desk name) ys ≡ Some t → (t.desk ≡ desk) × (t.name ≡ name)) → (t.desk ≡ desk) × (t.name ≡ name)
+    go true here there more = let same : y ≡ t = cc in subst (λ (x : StoredTenant). (x.desk ≡ desk) × (x.name ≡ name)) same (tenant_is desk name y here)
+    go false here there more = more there
+
 alike : (desk : ℕ) (name : List ℕ) (a b : StoredTenant) → a.desk ≡ b.desk → a.name ≡ b.name → is_tenant desk name a ≡ is_tenant desk name b
 alike desk name a b at named = rw (at, named) refl
 
@@ -145,3 +159,66 @@ set_other (z ∷ xs) zero zero y other = absurd (other refl)
 set_other (z ∷ xs) zero (suc j) y other = refl
 set_other (z ∷ xs) (suc i) zero y other = refl
 set_other (z ∷ xs) (suc i) (suc j) y other = set_other xs i j y (λ same. other (ap suc same))
+
+-- ---- lists without the jobs of some numbers
+
+module _ {X : Type 0} (key : X → ℤ) where
+  abbrev left : ℕ → List X → List ℕ → List X
+  left desk = fold (λ xs number. without_key key xs (pos (id_of desk number)))
+
+  none_stays : (xs : List X) (gone id : ℤ) → get_by key xs id ≡ None → get_by key (without_key key xs gone) id ≡ None
+  none_stays xs gone id none = go (int_eq gone id) refl
+    where
+      go : (b : Bool) → int_eq gone id ≡ b → get_by key (without_key key xs gone) id ≡ None
+      go true same = ap (λ (g : ℤ). get_by key (without_key key xs g) id) (same_int gone id same) ∙ get_gone key xs id
+      go false other = get_without key xs gone id other ∙ none
+
+  left_none : (desk : ℕ) (xs : List X) (numbers : List ℕ) (id : ℤ) → get_by key xs id ≡ None → get_by key (left desk xs numbers) id ≡ None
+  left_none desk xs [] id none = none
+  left_none desk xs (m ∷ ms) id none = left_none desk (without_key key xs (pos (id_of desk m))) ms id (none_stays xs (pos (id_of desk m)) id none)
+
+  pub left_gone : (desk : ℕ) (xs : List X) (numbers : List ℕ) (n : ℕ) → is_number_in n numbers ≡ true → get_by key (left desk xs numbers) (pos (id_of desk n)) ≡ None
+  left_gone desk xs [] n among = absurd (cc)
+  left_gone desk xs (m ∷ ms) n among = go (m == n) refl among (λ later. left_gone desk (without_key key xs (pos (id_of desk m))) ms n later)
+    where
+      go : (b : Bool) → (m == n) ≡ b → (b || is_number_in n ms) ≡ true → (is_number_in n ms ≡ true → get_by key (left desk (without_key key xs (pos (id_of desk m))) ms) (pos (id_of desk n)) ≡ None)
+          → get_by key (left desk (without_key key xs (pos (id_of desk m))) ms) (pos (id_of desk n)) ≡ None
+      go true here among more =
+          let same : m ≡ n = grind (arith, nat_tests) in
+          left_none desk (without_key key xs (pos (id_of desk m))) ms (pos (id_of desk n))
+          (ap (λ (k : ℕ). get_by key (without_key key xs (pos (id_of desk k))) (pos (id_of desk n))) same ∙ get_gone key xs (pos (id_of desk n)))
+      go false here among more = more among
+
+  pub left_there : (desk : ℕ) (xs : List X) (numbers : List ℕ) (n : ℕ) → is_number_in n numbers ≡ false → get_by key (left desk xs numbers) (pos (id_of desk n)) ≡ get_by key xs (pos (id_of desk n))
+  left_there desk xs [] n among = refl
+  left_there desk xs (m ∷ ms) n among = go (m == n) refl among (λ later. left_there desk (without_key key xs (pos (id_of desk m))) ms n later)
+    where
+      go : (b : Bool) → (m == n) ≡ b → (b || is_number_in n ms) ≡ false
+          → (is_number_in n ms ≡ false → get_by key (left desk (without_key key xs (pos (id_of desk m))) ms) (pos (id_of desk n)) ≡ get_by key (without_key key xs (pos (id_of desk m))) (pos (id_of desk n)))
+          → get_by key (left desk (without_key key xs (pos (id_of desk m))) ms) (pos (id_of desk n)) ≡ get_by key xs (pos (id_of desk n))
+      go true here among more = absurd (cc)
+      go false here among more =
+          let other : m ≡ n → ⊥ = λ same. grind (arith, nat_tests) in
+          more among ∙ get_without key xs (pos (id_of desk m)) (pos (id_of desk n)) (apart desk m n other)
+
+  pub left_others : (desk mine : ℕ) (xs : List X) (numbers : List ℕ) (n : ℕ) → desk ≢ mine → ((m : ℕ) → is_number_in m numbers ≡ true → m < most_numbers) → n < most_numbers
+      → get_by key (left desk xs numbers) (pos (id_of mine n)) ≡ get_by key xs (pos (id_of mine n))
+  left_others desk mine xs [] n other few small = refl
+  left_others desk mine xs (m ∷ ms) n other few small =
+      let own : (m == m) ≡ true = grind (arith, nat_tests) in
+      let here : is_number_in m (m ∷ ms) ≡ true = ap (λ (b : Bool). b || is_number_in m ms) own in
+      left_others desk mine (without_key key xs (pos (id_of desk m))) ms n other (λ k among. few k (or_true (m == k) (is_number_in k ms) among)) small
+      ∙ get_without key xs (pos (id_of desk m)) (pos (id_of mine n)) (desks_apart desk mine m n other (few m here) small)
+
+module _ {X : Type 0} (key : X → ℤ) (P : X → Type 0) where
+  pub all_left : (desk : ℕ) (xs : List X) (numbers : List ℕ) → All P xs → All P (left key desk xs numbers)
+  all_left desk xs [] each = each
+  all_left desk xs (m ∷ ms) each = all_left desk (without_key key xs (pos (id_of desk m))) ms (all_without P key xs (pos (id_of desk m)) each)
+
+pub found_key : {X : Type 0} (key : X → ℤ) (xs : List X) (x : X) (id : ℤ) → get_by key xs id ≡ Some x → int_eq (key x) id ≡ true
+found_key key [] x id there = absurd (cc)
+found_key key (y ∷ ys) x id there = go (int_eq (key y) id) refl there (λ later. found_key key ys x id later)
+  where
+    go : (b : Bool) → int_eq (key y) id ≡ b → cond b (Some y) (get_by key ys id) ≡ Some x → (get_by key ys id ≡ Some x → int_eq (key x) id ≡ true) → int_eq (key x) id ≡ true
+    go true here there more = let same : y ≡ x = cc in ap (λ z. int_eq (key z) id) (sym same) ∙ here
+    go false here there more = more there

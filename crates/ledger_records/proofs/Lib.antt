@@ -1,3 +1,11 @@
 pub mod Finding
 pub mod Steps
+pub mod Forgetting
+pub mod Keys
+pub mod Others
 pub mod Alike
+pub mod Chain
+pub mod SoFarLemmas
+pub mod DeskLemmas
+pub mod OrderLemmas
+pub mod TenantLemmas

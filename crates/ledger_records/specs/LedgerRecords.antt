@@ -1,10 +1,11 @@
 -- The ledger of a desk, and the records that stand for it.
-use Rattle.std.specs.Prelude.{ℕ, ◌≡◌, ◌≢◌, ◌+◌, ◌-◌, ◌<◌, ◌≤◌, ◌==◌, ◌&&◌, Bool, List, pos, find, slice_set, string_bytes, unwrap_or, option_map, Option, Some, None, ⊤, All}
+use Rattle.std.specs.Prelude.{ℕ, ◌≡◌, ◌⊎◌, ◌+◌, ◌-◌, ◌<◌, ◌≤◌, ◌==◌, ◌&&◌, Bool, List, length, pos, find, string_bytes, option_map, Option, Some, None, ⊤, All}
+use Rattle.std.specs.List.{AllZip}
 use Rattle.std.specs.Str.{bytes_eq}
 use Rattle.sqlite_keyed.specs.Keyed.{get_by}
-use Rattle.accounts.specs.Forgetting.{IsGone, IsJobOver}
-use Rattle.accounts.specs.Jobs.{job_at, spent_by_job, spent_for}
-use Rattle.accounts.specs.Ledgers.{Ledger, granted_to, past_of}
+use Rattle.accounts.specs.Forgetting.{IsGone}
+use Rattle.accounts.specs.Jobs.{job_at}
+use Rattle.accounts.specs.Ledgers.{Ledger, account_at, granted_to, past_of, spent_by_jobs}
 use Rattle.accounts.specs.declared.jobs.JobEntry.{JobEntry}
 use Rattle.accounts.specs.declared.jobs.JobStanding.{JobStanding}
 use Rattle.accounts.specs.declared.jobs.JobStanding.TheVariants as stands
@@ -12,11 +13,11 @@ use Rattle.desk_journal.specs.AlikeDesks.{AreEntriesAlike}
 use Rattle.desk_journal.specs.Changes.{task_bytes}
 use Rattle.desk_journal.specs.Encodings.{list_bytes}
 use Rattle.desk_records.specs.Columns.{id_of, most_numbers}
-use Rattle.desk_records.specs.Made.{outcome_key, stored_job_key}
+use Rattle.desk_records.specs.Made.{desk_key, outcome_key, stored_job_key}
 use Rattle.desk_records.specs.Stored.{Ledgers}
-use Rattle.desk_records.specs.declared.changes.StoredChange.{StoredChange}
-use Rattle.desk_records.specs.declared.changes.StoredChange.TheVariants.{Granted, Taken, Settled, Forgotten}
+use Rattle.desk_records.specs.declared.stored_desk.StoredDesk.{StoredDesk}
 use Rattle.desk_records.specs.declared.stored_job.StoredJob.{StoredJob}
+use Rattle.desk_records.specs.declared.stored_key.StoredKey.{StoredKey}
 use Rattle.desk_records.specs.declared.stored_outcome.StoredOutcome.{StoredOutcome}
 use Rattle.desk_records.specs.declared.stored_outcome.StoredResult.{StoredResult}
 use Rattle.desk_records.specs.declared.stored_outcome.StoredResult.TheVariants as stored
@@ -35,6 +36,13 @@ job_record l desk number = get_by stored_job_key l.jobs (pos (id_of desk number)
 
 abbrev pub outcome_record : Ledgers → ℕ → ℕ → Option StoredOutcome
 outcome_record l desk number = get_by outcome_key l.outcomes (pos (id_of desk number))
+
+-- the record of a desk of which jobs are forgotten
+abbrev pub is_row_of : ℕ → StoredDesk → Bool
+is_row_of desk d = d.desk == desk
+
+abbrev pub desk_record : Ledgers → ℕ → Option StoredDesk
+desk_record l desk = get_by desk_key l.desks (pos desk)
 
 -- the job is that of the record
 pub record IsTakenAs (entry : JobEntry) (job : StoredJob) : Type 0 where
@@ -62,15 +70,40 @@ StandsAs (Some entry) (Some job) None = IsTakenAs entry job × (entry.standing �
 StandsAs (Some entry) (Some job) (Some outcome) =
     IsTakenAs entry job × CameTo entry.standing outcome.outcome
 
+-- no record of a desk tells of more jobs
+abbrev pub HasFewerJobs : ℕ → ℕ → StoredJob → Type 0
+HasFewerJobs desk count job = job.desk ≡ desk → job.number ≤ count
+
+abbrev pub HasFewerTaken : ℕ → ℕ → StoredDesk → Type 0
+HasFewerTaken desk count d = d.desk ≡ desk → d.taken ≤ count
+
+abbrev pub HasFewerKeyed : ℕ → ℕ → StoredKey → Type 0
+HasFewerKeyed desk count key = key.desk ≡ desk → key.number ≤ count
+
+-- The desk took so many jobs, also those that are forgotten: the last one has a record, or the
+-- desk's own record tells of it.
+pub record HasTaken (desk : ℕ) (l : Ledgers) (count : ℕ) : Type 0 where
+  pub few : count < most_numbers
+  pub jobs : All (HasFewerJobs desk count) l.jobs
+  pub desks : All (HasFewerTaken desk count) l.desks
+  pub keys : All (HasFewerKeyed desk count) l.keys
+  pub last : (count ≡ 0) ⊎ (((job : StoredJob) × (job_record l desk count ≡ Some job))
+      ⊎ ((d : StoredDesk) × (desk_record l desk ≡ Some d) × (d.taken ≡ count)))
+
+-- what a tenant's jobs spent, also those that are forgotten
+abbrev pub spent_of : Ledger → List ℕ → ℕ
+spent_of ledger name = past_of ledger name + spent_by_jobs ledger.jobs name
+
 -- these are the records of the desk's ledger
 pub record IsLedgerOf (desk : ℕ) (l : Ledgers) (ledger : Ledger) : Type 0 where
   pub granted : (name : List ℕ)
       → granted_to ledger name ≡ option_map (λ t. t.granted) (tenant_named l desk name)
-  pub past : (name : List ℕ)
-      → past_of ledger name ≡ unwrap_or (option_map (λ t. t.past) (tenant_named l desk name)) 0
+  pub spent : (name : List ℕ) (t : StoredTenant) → tenant_named l desk name ≡ Some t
+      → spent_of ledger name ≡ t.spent
   pub jobs : (number : ℕ) → 1 ≤ number → number < most_numbers
       → StandsAs (job_at ledger.jobs number) (job_record l desk number)
       (outcome_record l desk number)
+  pub taken : HasTaken desk l (length ledger.jobs)
 
 -- A tenant's row has its number alone: who has the number is this tenant, and this tenant has no
 -- other row.
@@ -78,51 +111,8 @@ pub record HasItsNumber (tenants : List StoredTenant) (t : StoredTenant) : Type 
   pub same : All (λ o. o.number ≡ t.number → (o.desk ≡ t.desk) × (o.name ≡ t.name)) tenants
   pub alone : All (λ o. o.desk ≡ t.desk → o.name ≡ t.name → o.number ≡ t.number) tenants
 
--- the tenant's row behind a grant of so much
-pub record IsRowOfGrant (desk : ℕ) (old : Ledger) (name : List ℕ) (amount : ℕ)
-    (t : StoredTenant) : Type 0 where
-  pub at : t.desk ≡ desk
-  pub named : t.name ≡ name
-  pub granted : t.granted ≡ unwrap_or (granted_to old name) 0 + amount
-  pub past : t.past ≡ past_of old name
-
--- a tenant's row of another desk, with a number of its own
-pub record IsOthersRow (desk : ℕ) (l : Ledgers) (t : StoredTenant) : Type 0 where
-  pub other : t.desk ≢ desk
-  pub numbered : HasItsNumber l.tenants t
-
--- something that happens at another desk
-abbrev pub IsOfAnother : ℕ → Ledgers → StoredChange → Type 0
-IsOfAnother desk l (Granted t) = IsOthersRow desk l t
-IsOfAnother desk l (Taken job) = (job.desk ≢ desk) × (job.number < most_numbers)
-IsOfAnother desk l (Settled o) = (o.desk ≢ desk) × (o.number < most_numbers)
-IsOfAnother desk l (Forgotten f) =
-    (f.desk.desk ≢ desk) × (f.number < most_numbers) × IsOthersRow desk l f.tenant
-
--- One job that is over is forgotten: its entry is nobody's, and what it spent is in its tenant's
--- past.
-pub record ForgetsOne (old : Ledger) (number : ℕ) (new : Ledger) : Type 0 where
-  pub entry : JobEntry
-  pub was : job_at old.jobs number ≡ Some entry
-  pub over : IsJobOver entry
-  pub left : JobEntry
-  pub gone : IsGone left
-  pub jobs : new.jobs ≡ slice_set old.jobs (number - 1) left
-  pub grants : (q : List ℕ) → granted_to new q ≡ granted_to old q
-  pub past : (q : List ℕ) → past_of new q ≡ past_of old q + spent_for q entry
-
--- the tenant's row behind that
-pub record IsRowOfForgotten (desk : ℕ) (old : Ledger) (entry : JobEntry) (t : StoredTenant) :
-    Type 0 where
-  pub at : t.desk ≡ desk
-  pub named : t.name ≡ string_bytes entry.tenant
-  pub granted : granted_to old t.name ≡ Some t.granted
-  pub past : t.past ≡ past_of old t.name + spent_by_job entry.standing
-
--- ledgers of the same grants and the same past, whose jobs of one number are alike
+-- ledgers of the same accounts, whose jobs are alike place by place
 pub record AreLedgersAlike (first second : Ledger) : Type 0 where
   pub granted : (name : List ℕ) → granted_to first name ≡ granted_to second name
-  pub past : (name : List ℕ) → past_of first name ≡ past_of second name
-  pub jobs : (number : ℕ) (a b : JobEntry) → 1 ≤ number → number < most_numbers
-      → job_at first.jobs number ≡ Some a → job_at second.jobs number ≡ Some b
-      → AreEntriesAlike a b
+  pub accounts : (name : List ℕ) → account_at first name ≡ account_at second name
+  pub jobs : AllZip AreEntriesAlike first.jobs second.jobs

@@ -1,9 +1,26 @@
-//! The ledger of a desk and its records in a store: the same thing twice.
+//! The desks of a server and their records in a store: the same thing twice.
 #![tactic(auto)]
 
+// laws
 mod laws;
 
-pub use laws::{
-    ends_are_kept, forgettings_are_kept, grants_are_kept, other_desks_are_kept,
-    records_tell_the_ledger, submits_are_kept,
-};
+pub use laws::{records_follow_desks, restored_desks_are_alike};
+
+// a restart
+mod restored_desk;
+mod restored_desks;
+mod restored_job;
+mod restoring;
+
+pub use restored_desk::{RestoredDesk, restore_desk};
+pub use restored_desks::restore_desks;
+pub use restored_job::RestoredJob;
+
+// the rows of changes
+mod taken_rows;
+mod tenant_rows;
+mod written_rows;
+
+pub use taken_rows::taken_written;
+pub use tenant_rows::TenantRows;
+pub use written_rows::{outcome_written, programs_written};

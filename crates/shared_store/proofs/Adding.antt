@@ -5,7 +5,7 @@ use Rattle.std.proofs.lemmas.Bool.Decides.{nat_tests}
 use mathlib.Core.List.{IsPrefix}
 use prog.Atomic.{either}
 use Rattle.logbook.specs.Pages.{Cell, cell, keeps, no_nib, step, Moves, Goes}
-use Rattle.desk_records.specs.declared.changes.StoredChange.{StoredChange}
+use Rattle.desk_records.specs.declared.stored_change.StoredChange.{StoredChange}
 use Rattle.shared_store.specs.Rules.{AddsChange, IsCountedHistory}
 use Rattle.shared_store.proofs.Fronts.{prefix_whole}
 

@@ -3,7 +3,7 @@ use Rattle.std.specs.Prelude.{◌≡◌, ◌≢◌, ◌≤◌, ◌^◌, List, le
 use Rattle.sqlite_trees.specs.declared.store.Store.{Ghosts}
 use Rattle.desk_store.specs.RowStores.{FailsFor, IsHonest, reals_in}
 use Rattle.desk_records.specs.Changes.{CanWrite}
-use Rattle.desk_records.specs.declared.changes.StoredChange.{StoredChange}
+use Rattle.desk_records.specs.declared.stored_change.StoredChange.{StoredChange}
 use Rattle.shared_store.specs.Rules.{IsLonger}
 use Rattle.shared_store.specs.declared.change_queue.AddFault.{AddFault}
 use Rattle.shared_store.specs.declared.change_queue.AddFault.TheVariants.{NoMemory, TooMany, Outrun}

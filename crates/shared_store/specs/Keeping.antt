@@ -4,7 +4,7 @@ use Rattle.sqlite_trees.specs.declared.store.Store.{Ghosts}
 use Rattle.sqlite_trees.specs.Tree.{Trees}
 use Rattle.desk_store.specs.RowStores.{IsHonest, IsStoreOpen, kept_in, now_in}
 use Rattle.desk_records.specs.Changes.{all_changed}
-use Rattle.desk_records.specs.declared.changes.StoredChange.{StoredChange}
+use Rattle.desk_records.specs.declared.stored_change.StoredChange.{StoredChange}
 use Rattle.shared_store.specs.Faults.{HasFailed}
 use Rattle.shared_store.specs.declared.commit_fault.CommitFault.{CommitFault}
 

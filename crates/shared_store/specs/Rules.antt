@@ -2,7 +2,7 @@
 use Rattle.std.specs.Prelude.{ℕ, ◌≡◌, ◌==◌, ◌<◌, true, List, [], ◌∷◌, ◌++◌, length, MatchBool}
 use mathlib.Core.List.{IsPrefix}
 use Rattle.logbook.specs.Pages.{Cell, Step, View, Book, Named}
-use Rattle.desk_records.specs.declared.changes.StoredChange.{StoredChange}
+use Rattle.desk_records.specs.declared.stored_change.StoredChange.{StoredChange}
 
 -- The first word is the length of the history. A book has two words, and this one leaves the second
 -- at 0.

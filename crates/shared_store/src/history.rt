@@ -130,7 +130,7 @@ pub struct HistoryFront<J: HistoryName> {
 
 impl<J: HistoryName> Model for HistoryFront<J> {
     ghost use Rattle.std.specs.Prelude.{◌≡◌, List, length};
-    ghost use Rattle.desk_records.specs.declared.changes.StoredChange.{StoredChange};
+    ghost use Rattle.desk_records.specs.declared.stored_change.StoredChange.{StoredChange};
 
     ghost Value = { List StoredChange };
 

@@ -3,7 +3,7 @@
 ghost use Rattle.std.specs.Prelude.{◌≡◌, IfErr, IfOk, Some, slice_get};
 ghost use mathlib.Core.List.{IsPrefix};
 ghost use Rattle.desk_store.specs.RowStores.{IsHonest};
-ghost use Rattle.desk_records.specs.declared.changes.StoredChange.{StoredChange};
+ghost use Rattle.desk_records.specs.declared.stored_change.StoredChange.{StoredChange};
 ghost use Rattle.shared_store.specs.Faults.{HasFailed, MayRefuse};
 ghost use Rattle.shared_store.specs.Sharing.{FailsToShare};
 ghost use Rattle.shared_store.specs.Keeping.{IsSettledAt, LeavesCommitted};

@@ -1,8 +1,8 @@
 //! The changes of each batch.
 
 use desk_records::{
-    ForgottenJob, StoredChange, StoredDesk, StoredJob, StoredOutcome, StoredReport, StoredResult,
-    StoredTenant,
+    ForgottenJobs, NotedKey, SettledJob, StoredChange, StoredDesk, StoredJob, StoredKey,
+    StoredOutcome, StoredReport, StoredResult, StoredTenant, TakenJob,
 };
 use sqlite_value::value::Bytes;
 use std::alloc::{AllocError, Global};
@@ -26,16 +26,26 @@ fn tenant(alloc: Global, number: u32) -> Result<StoredTenant, AllocError> {
         desk: 2,
         name: Bytes::from_slice(alloc, b"ann")?,
         granted: u64::from(number) * 1000,
-        past: u64::from(number.saturating_sub(KEPT)) * 3,
+        spent: u64::from(number) * 3,
     })
 }
 
-// A job has a key where its number is even.
-fn key(alloc: Global, number: u32) -> Result<Option<Bytes>, AllocError> {
+// A job has a key where its number is even. The one so many numbers before is not remembered then.
+fn key(alloc: Global, number: u32) -> Result<Option<NotedKey>, AllocError> {
     if number % 2 == 1 {
         return Ok(None);
     }
-    Ok(Some(Bytes::from_slice(alloc, b"again")?))
+    let key = StoredKey {
+        desk: 2,
+        number: u64::from(number),
+        key: Bytes::from_slice(alloc, b"again")?,
+    };
+    let dropped = if number > KEPT {
+        Some(u64::from(number.saturating_sub(KEPT)))
+    } else {
+        None
+    };
+    Ok(Some(NotedKey { key, dropped }))
 }
 
 fn job(alloc: Global, number: u32) -> Result<StoredJob, AllocError> {
@@ -44,7 +54,6 @@ fn job(alloc: Global, number: u32) -> Result<StoredJob, AllocError> {
         number: u64::from(number),
         tenant: Bytes::from_slice(alloc, b"ann")?,
         credit: 10,
-        key: key(alloc, number)?,
         programs: bytes_for(alloc, number)?,
         buffer: Bytes::from_slice(alloc, b"in")?,
     })
@@ -71,14 +80,29 @@ fn outcome(alloc: Global, number: u32) -> Result<StoredOutcome, AllocError> {
     })
 }
 
-fn forgotten(alloc: Global, number: u32) -> Result<ForgottenJob, AllocError> {
-    Ok(ForgottenJob {
-        number: u64::from(number.saturating_sub(KEPT)),
+fn taken(alloc: Global, number: u32) -> Result<TakenJob, AllocError> {
+    Ok(TakenJob {
+        job: job(alloc, number)?,
+        key: key(alloc, number)?,
+    })
+}
+
+fn settled(alloc: Global, number: u32) -> Result<SettledJob, AllocError> {
+    Ok(SettledJob {
+        outcome: outcome(alloc, number)?,
         tenant: tenant(alloc, number)?,
+    })
+}
+
+fn forgotten(alloc: Global, number: u32) -> Result<ForgottenJobs, AllocError> {
+    let mut numbers = Vec::with_capacity(alloc, 1)?;
+    numbers.push(u64::from(number.saturating_sub(KEPT)))?;
+    Ok(ForgottenJobs {
         desk: StoredDesk {
             desk: 2,
             taken: u64::from(number),
         },
+        numbers,
     })
 }
 
@@ -86,8 +110,8 @@ fn forgotten(alloc: Global, number: u32) -> Result<ForgottenJob, AllocError> {
 pub fn batch_of(alloc: Global, number: u32) -> Result<Vec<StoredChange>, AllocError> {
     let mut batch = Vec::with_capacity(alloc, 4)?;
     batch.push(StoredChange::Granted(tenant(alloc, number)?))?;
-    batch.push(StoredChange::Taken(job(alloc, number)?))?;
-    batch.push(StoredChange::Settled(outcome(alloc, number)?))?;
+    batch.push(StoredChange::Taken(taken(alloc, number)?))?;
+    batch.push(StoredChange::Settled(settled(alloc, number)?))?;
     if number > KEPT {
         batch.push(StoredChange::Forgotten(forgotten(alloc, number)?))?;
     }

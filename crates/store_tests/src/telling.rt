@@ -1,7 +1,7 @@
 //! Lines that tell records, and why there are none.
 
 use desk_records::{
-    StoredDesk, StoredJob, StoredOutcome, StoredRecords, StoredResult, StoredTenant,
+    StoredDesk, StoredJob, StoredKey, StoredOutcome, StoredRecords, StoredResult, StoredTenant,
 };
 use desk_store::StoreOpenFault;
 use sqlite_value::value::Bytes;
@@ -28,11 +28,11 @@ fn tell_tenant(rt: &HostRuntime, tenant: &StoredTenant) -> io::Result<()> {
         number,
         desk,
         granted,
-        past,
+        spent,
         ..
     } = tenant;
     let name = text(&tenant.name);
-    println!(rt; "tenant {number} {desk} {name} {granted} {past}")
+    println!(rt; "tenant {number} {desk} {name} {granted} {spent}")
 }
 
 fn tell_job(rt: &HostRuntime, job: &StoredJob) -> io::Result<()> {
@@ -43,14 +43,10 @@ fn tell_job(rt: &HostRuntime, job: &StoredJob) -> io::Result<()> {
         ..
     } = job;
     let tenant = text(&job.tenant);
-    let key = match &job.key {
-        Some(key) => text(key),
-        None => "-",
-    };
     let programs = job.programs.as_slice().len();
     let sum = sum_of(&job.programs);
     let buffer = job.buffer.as_slice().len();
-    println!(rt; "job {desk} {number} {tenant} {credit} {key} {programs} {sum} {buffer}")
+    println!(rt; "job {desk} {number} {tenant} {credit} {programs} {sum} {buffer}")
 }
 
 fn tell_outcome(rt: &HostRuntime, outcome: &StoredOutcome) -> io::Result<()> {
@@ -72,6 +68,12 @@ fn tell_desk(rt: &HostRuntime, desk: &StoredDesk) -> io::Result<()> {
     println!(rt; "desk {desk} {taken}")
 }
 
+fn tell_key(rt: &HostRuntime, key: &StoredKey) -> io::Result<()> {
+    let StoredKey { desk, number, .. } = key;
+    let text = text(&key.key);
+    println!(rt; "key {desk} {number} {text}")
+}
+
 /// Tells each record, a line each.
 pub fn tell_records(rt: &HostRuntime, records: &StoredRecords) -> io::Result<()> {
     for tenant in records.tenants.as_slice() {
@@ -85,6 +87,9 @@ pub fn tell_records(rt: &HostRuntime, records: &StoredRecords) -> io::Result<()>
     }
     for desk in records.desks.as_slice() {
         tell_desk(rt, desk)?;
+    }
+    for key in records.keys.as_slice() {
+        tell_key(rt, key)?;
     }
     Ok(())
 }

@@ -1,13 +1,7 @@
-use Rattle.std.proofs.Common.{arith, to_z-of_z, SFits, w64}
-use Rattle.desk_store.specs.declared.table.StoreTable.TheVariants.{Outcome}
-use Rattle.desk_store.specs.RowStores.{IsHonest}
-use Rattle.desk_records.specs.Changes.{without_row}
-use Rattle.desk_records.proofs.StepLemmas.{steps_then}
+use Rattle.std.proofs.Common.{rules, to_z-of_z, SFits, w64}
 use Rattle.desk_records.proofs.changes.remove_job.Goals as goal
 
-pub returns-in-Ok-remove-clause-ok : goal.returns-in-Ok-remove-clause-ok
-returns-in-Ok-remove-clause-ok g c honest =
-    let mid = c.remove.new.self in
-    let back : IsHonest g.S.Store mid = omega (arith, c.remove-2.ensures.calm.clean) in
-    let fits : SFits w64 c.args.id = c.ranges.id in
-    steps_then g.S.Store c.args.rows.now mid c.remove-2.new.self _ (λ db. without_row db Outcome c.args.id) ((simp to_z-of_z at c.in-Ok.ensures.ok) back) ((simp to_z-of_z at c.in-Ok-remove.ensures.ok) honest)
+pub returns-in-Ok-clause-ok : goal.returns-in-Ok-clause-ok
+returns-in-Ok-clause-ok g c =
+    let fits : SFits w64 c.in-Ok.id = search rules in
+    rw c.in-Ok.ensures.ok at (simp to_z-of_z at c.remove_rows.ensures.ok)

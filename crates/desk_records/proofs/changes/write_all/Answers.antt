@@ -24,7 +24,7 @@ loop-change-preserved g c =
           let step = c.in_ok-write_change.ensures.ok honest in record {
             now_is = step.now_is ∙ ap (λ (db : Trees). changed db change) was.now_is ∙ ap (changed (all_changed first (take at changes))) (sym here) ∙ sym (fold_more changed first changes at change within);
             kept_is = step.kept_is ∙ was.kept_is;
-            opens = (λ h. step.is_open, λ h. was.opens.1 step.was_open);
+            opens = (λ h. step.opens.0 (was.opens.0 h), λ h. was.opens.1 (step.opens.1 h));
             reals_are = step.reals_are ∙ was.reals_are;
           },
       rw (take_more changes at change within) (All-push IsNarrowChange (take at changes) (slice_index_or changes at change) c.loop-change.invariant.1 one),

@@ -22,3 +22,7 @@ returns-then-is_broken-clause-none g c =
     let s = c.into_store-store.result in
     let broken = broken_told (g.S.Store.view s) c.is_broken.result c.is_broken.ensures (g.met.S.Store.shut_if_dirty s) (g.met.S.Store.broken_if_shut s) c.if-is_broken.true in
     inr (s, c.into_store-store.ensures.quiet, inl broken)
+
+pub returns-then-not-are_store_trees-clause-none : goal.returns-then-not-are_store_trees-clause-none
+returns-then-not-are_store_trees-clause-none g c =
+    inr (c.into_store-store.result, c.into_store-store.ensures.quiet, inr (λ shapes. let all = c.are_store_trees.ensures.1 shapes in absurd (cc (all, c.if-not-are_store_trees.true))))

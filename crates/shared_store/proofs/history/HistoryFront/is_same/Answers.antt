@@ -1,7 +1,7 @@
 use Rattle.std.proofs.Common.{◌≡◌, ap, subst, arith, length, List}
 use Rattle.std.proofs.lemmas.Bool.Decides.{nat_tests}
 use mathlib.Core.List.{IsPrefix}
-use Rattle.desk_records.specs.declared.changes.StoredChange.{StoredChange}
+use Rattle.desk_records.specs.declared.stored_change.StoredChange.{StoredChange}
 use Rattle.shared_store.proofs.Fronts.{prefix_same}
 use Rattle.shared_store.proofs.history.HistoryFront.is_same.Goals as goal
 

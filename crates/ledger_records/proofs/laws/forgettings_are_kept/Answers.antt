@@ -1,5 +1,0 @@
-use Rattle.ledger_records.proofs.Steps.{forgotten_kept}
-use Rattle.ledger_records.proofs.laws.forgettings_are_kept.Goals as goal
-
-pub returns : goal.returns
-returns c = forgotten_kept
