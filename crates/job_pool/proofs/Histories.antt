@@ -1,53 +1,17 @@
 -- Whole runs of a pool: the open jobs of the history are those of the table, and the limits hold.
-use Rattle.std.proofs.Common.{◌≡◌, ◌≢◌, ◌==◌, ◌&&◌, ◌≤◌, ℕ, Bool, true, false, List, Option, Some, None, Result, Err, if◌then◌else◌, option_map, refl, sym, ap, subst, ◌∙◌, ◌⊎◌, inl, inr, arith}
-use Rattle.std.proofs.lemmas.Bool.Decides.{nat_tests}
+use Rattle.std.proofs.Common.{◌≡◌, ◌≢◌, ◌==◌, ◌≤◌, ℕ, Bool, true, false, List, Option, Some, None, Result, Err, if◌then◌else◌, option_map, refl, sym, ap, subst, ◌∙◌, ◌⊎◌, inl, inr, arith}
 use Rattle.std.specs.BTreeMap.{BTreeMap}
 use Rattle.credit_book.specs.declared.board.Progress.{Progress}
 use Rattle.credit_book.specs.declared.book.Report.{Report}
 use Rattle.job_core.specs.Admitted.{AdmittedJob}
 use Rattle.server_state.specs.declared.job_id.JobId.{JobId}
-use Rattle.job_pool.specs.Holdings.{ChangesJob, HasRoom, KeepsLimits, PoolLimits, SeenJob, StartsJob, TakesHeldJob, held_job_at, limit_at, looks_under, open_at}
+use Rattle.job_pool.specs.Holdings.{ChangesJob, HasRoom, KeepsLimits, PoolLimits, SeenJob, StartsJob, TakesHeldJob, held_job_at, job_held, limit_at, looks_under, open_at}
 use Rattle.job_pool.specs.PooledJobs.{PooledJob, IsJobEnd}
 use Rattle.job_pool.specs.PoolRuns.{PoolEvent, PoolRuns, begun, is_id, looked, refused, started, still_open, took, took_none}
+use Rattle.job_pool.specs.HeldLemmas.{id_apart, id_is, look_keeps_jobs, number_is, same_number}
 use Rattle.job_pool.proofs.Limits.{within_dropped, within_held, within_same}
 
--- ---- names
-
-same_number : (m n : ℕ) → m ≡ n → (m == n) ≡ true
-same_number m n is = grind (arith, nat_tests)
-
-number_is : (m n : ℕ) → (m == n) ≡ true → m ≡ n
-number_is m n is = grind (arith, nat_tests)
-
-both_true : (a b : Bool) → a ≡ true → b ≡ true → (a && b) ≡ true
-both_true true b first second = second
-both_true false b first second = first
-
-true_first : (a b : Bool) → (a && b) ≡ true → a ≡ true
-true_first true b both = refl
-true_first false b both = both
-
-true_second : (a b : Bool) → (a && b) ≡ true → b ≡ true
-true_second true b both = both
-true_second false b both = absurd (let clash : false ≡ true = both in cc)
-
-id_same : (a b : JobId) → a ≡ b → is_id a b ≡ true
-id_same a b same = both_true (a.desk == b.desk) (a.number == b.number) (same_number a.desk b.desk (ap (λ (j : JobId). j.desk) same)) (same_number a.number b.number (ap (λ (j : JobId). j.number) same))
-
-id_is : (a b : JobId) → is_id a b ≡ true → a ≡ b
-id_is a b is =
-    let desk : a.desk ≡ b.desk = number_is a.desk b.desk (true_first (a.desk == b.desk) (a.number == b.number) is) in
-    let number : a.number ≡ b.number = number_is a.number b.number (true_second (a.desk == b.desk) (a.number == b.number) is) in
-    λ i. record { desk = desk i; number = number i }
-
-id_apart : (a b : JobId) → is_id a b ≡ false → a ≢ b
-id_apart a b is = λ same. let clash : true ≡ false = sym (id_same a b same) ∙ is in cc
-
 -- ---- the open jobs
-
--- the job that is held under a name
-abbrev pub job_held : List (BTreeMap ℕ SeenJob) → JobId → Option AdmittedJob
-job_held table id = option_map (λ held. held.job.job) (held_job_at table id)
 
 -- a change under one name, by a test of the name
 by_name : (old new : List (BTreeMap ℕ SeenJob)) (id : JobId) (held : Option SeenJob) (open_job : Option AdmittedJob) (events : List PoolEvent) → ChangesJob old id held new → option_map (λ h. h.job.job) held ≡ open_job
@@ -64,18 +28,8 @@ look_keeps : (limits : PoolLimits) (old new : List (BTreeMap ℕ SeenJob)) (id :
 unfolding looks_under
 look_keeps limits old new id None told is looks =
     ((λ other. ap (λ (t : List (BTreeMap ℕ SeenJob)). job_held t other) looks.1), (λ within. subst (KeepsLimits limits) (sym looks.1) within))
-look_keeps limits old new id (Some held) told is looks = (jobs, within_kept)
+look_keeps limits old new id (Some held) told is looks = (look_keeps_jobs old new id (Some held) told is looks, within_kept)
   where
-    jobs : (other : JobId) → job_held new other ≡ job_held old other
-    jobs other = by_test (is_id other id) refl
-      where
-        by_test : (b : Bool) → is_id other id ≡ b → job_held new other ≡ job_held old other
-        by_test true same =
-            ap (job_held new) (id_is other id same)
-            ∙ (ap (option_map (λ h. h.job.job)) looks.changes.here
-            ∙ (sym (ap (option_map (λ h. h.job.job)) is) ∙ sym (ap (job_held old) (id_is other id same))))
-        by_test false apart = ap (option_map (λ h. h.job.job)) (looks.changes.others other (id_apart other id apart))
-
     within_kept : KeepsLimits limits old → KeepsLimits limits new
     within_kept within = (
       (λ limited. let all = within.0 limited in let is_all = looks.all in omega (arith, all, is_all)),

@@ -1,5 +1,5 @@
 -- The jobs that a pool holds, by desks, and its limits.
-use Rattle.std.specs.Prelude.{◌≡◌, ◌≢◌, ◌⊎◌, ◌↔◌, ◌+◌, ◌<◌, ◌≤◌, ℕ, Bool, true, false, List, [], ◌∷◌, Option, Some, None, Result, Ok, Err, IsTrue, length, slice_get, slice_index_or}
+use Rattle.std.specs.Prelude.{◌≡◌, ◌≢◌, ◌⊎◌, ◌↔◌, ◌+◌, ◌<◌, ◌≤◌, ℕ, Bool, true, false, List, [], ◌∷◌, Option, Some, None, Result, Ok, Err, IsTrue, length, option_map, slice_get, slice_index_or}
 use mathlib.Core.List.{IsPrefix}
 use Rattle.std.specs.BTreeMap as tree
 use Rattle.std.specs.BTreeMap.{BTreeMap, btree_map_len}
@@ -26,6 +26,10 @@ numbered_job (Some jobs) n = tree.get nat_cmp jobs n
 -- the job of this name
 abbrev pub held_job_at : List (BTreeMap ℕ SeenJob) → JobId → Option SeenJob
 held_job_at desks id = numbered_job (slice_get desks id.desk) id.number
+
+-- the job that was started under this name
+abbrev pub job_held : List (BTreeMap ℕ SeenJob) → JobId → Option AdmittedJob
+job_held desks id = option_map (λ held. held.job.job) (held_job_at desks id)
 
 -- the number of jobs that are open at a desk, and in all
 abbrev pub count_of_desk : Option (BTreeMap ℕ SeenJob) → ℕ
@@ -159,6 +163,10 @@ StartsJob limits has_workers ticket old id job (Err code) new =
     (((code ≡ 81) × ((HasRoom limits old id.desk × (has_workers ≡ true) × (held_job_at old id ≡ None)) → ⊥))
     ⊎ (code ≡ 99))
     × IsSameTable old new
+
+-- the numbers by which a start is refused
+abbrev pub IsStartRefusal : ℕ → Type 0
+IsStartRefusal code = (code ≡ 81) ⊎ (code ≡ 99)
 
 -- A job that was held is given with an end of it, and is held no more.
 abbrev pub TakesHeldJob : List (BTreeMap ℕ SeenJob) → Option (JobId × Result Report ℕ)

@@ -4,3 +4,4 @@ pub mod PoolSteps
 pub mod SeatSteps
 pub mod Holdings
 pub mod PoolRuns
+pub mod HeldLemmas

@@ -15,7 +15,7 @@ use credit_book::{Progress, Report};
 use job_core::Job;
 use refusal::NoMemory;
 use seat_log::LogName;
-use server_state::{JobId, JobRunner, RefusedStart};
+use server_state::{JobEnds, JobId, JobRunner, RefusedStart};
 use std::alloc::Global;
 use std::sync::Wait;
 
@@ -193,4 +193,29 @@ impl<R: Wait, W: JobWatch<R>, J: LogName> JobRunner for JobPool<'_, R, W, J> {
         self.port.read(given.into_note());
         Some((id, end))
     }
+}
+
+impl<R: Wait, W: JobWatch<R>, J: LogName> JobEnds for JobPool<'_, R, W, J> {
+    ghost use Rattle.job_pool.specs.Holdings.{IsStartRefusal, job_held};
+    ghost use Rattle.job_pool.specs.PooledJobs.{IsJobEnd};
+    ghost use Rattle.job_pool.specs.HeldLemmas.{end_is_whole, held_looked, held_refused, held_started, held_still, held_taken};
+
+    ghost at = { λ p. job_held p.table.desks.items };
+
+    ghost ends = { IsJobEnd };
+
+    ghost refuses = { IsStartRefusal };
+
+    ghost runs = { record {
+      started = λ p id job done q step. held_started p.table.desks.items q.table.desks.items
+          p.limits p.has_workers p.tickets id job done step.0;
+      refused = λ p id job code q step. held_refused p.table.desks.items q.table.desks.items
+          p.limits p.has_workers p.tickets id job code step.0;
+      looked = λ p id told q step. held_looked p.table.desks.items q.table.desks.items id told
+          step.0;
+      taken = λ p id outcome q step. held_taken p.table.desks.items q.table.desks.items id outcome
+          step.0;
+      none = λ p q step. held_still p.table.desks.items q.table.desks.items step.0;
+      whole = end_is_whole;
+    } };
 }
