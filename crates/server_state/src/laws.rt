@@ -39,9 +39,9 @@ pub fn one_key_one_job<N: JobRunner>()
 {}
 
 /// A tenant is told nothing of others. Where the same happens at one first desk in two histories,
-/// the same is sent, or how far a job is. The same happens where the same is asked, the starts of
-/// its jobs come to the same, and its jobs end the same. Neither history forgets a report, or
-/// refuses for want of memory.
+/// the same is sent, or how far a job is, or the counts of the server. The same happens where the
+/// same is asked, the starts of its jobs come to the same, and its jobs end the same. Neither history
+/// forgets a report, or refuses for want of memory.
 pub fn others_are_not_told<N: JobRunner>()
     ensures { (begun : DeskState) (waiting others : List (JobId × AdmittedJob)) (r q : N)
         (first second : List ServerEvent) (s t : ServerState N)
